@@ -1,0 +1,15 @@
+use native.Mathlib.Omega.{arith}
+use Rattle.std.specs.Of.Vec.{vec-items}
+use Rattle.book.proofs.Steps.{name-missing, name-there}
+use Rattle.book.proofs.book.Book.seek.Needs as need
+
+pub returns-in-rest : need.returns-in-rest
+returns-in-rest c h k =
+    let b = c .args .self .now in
+    name-missing h (vec-items (b .table .lines)) (b .last) k (c .args .number .value) (omega arith) (omega arith) (c .in-rest .ensures tt)
+
+pub returns : need.returns
+returns c =
+    let b = c .args .self .now in
+    let at = c .in-Some .ensures tt in
+    (at, λ h k. name-there h (vec-items (b .table .lines)) (b .last) k (c .args .number .value) (c .in-Some .place) (omega arith) (omega arith) at)

@@ -1,0 +1,2 @@
+pub mod book;
+mod table;

@@ -1,0 +1,5 @@
+pub mod Counting
+pub mod Listings
+pub mod Sound
+pub mod Tables
+pub mod Limits

@@ -1,0 +1,9 @@
+pub mod Refusals
+pub mod Types
+pub mod Kinds
+pub mod Lines
+pub mod Tables
+pub mod Rules
+pub mod History
+pub mod Ruled
+pub mod Trees
