@@ -28,7 +28,7 @@ use Rattle.rules.specs.Rules.{Allowed, Refused}
 use Rattle.rules.specs.Ruled.{naming, using-line, change-rules, Lawful}
 use Rattle.rules.proofs.Sound.{joinable}
 use Rattle.rules.proofs.Tables.{line, line-there, part-there, not-there, issue-lines, join-lines, item-out, block-out}
-use Rattle.rules.proofs.Limits.{type-of-number, lines-count, issue-room, join-room}
+use Rattle.rules.proofs.Limits.{type-of-number, lines-count, issue-room, join-room, few-lines}
 use Rattle.book.specs.declared.book.Book.{Book}
 use Rattle.book.specs.Kept.{Holds}
 use Rattle.book.specs.Keeps.{Keeps, Found}
@@ -172,3 +172,7 @@ module _ (v : Book) (j : Kind) (a b : PartNumber) (i l : ℕ) (p : Found (a .val
   pub join-next : (m : ℕ) (ys zs us : List Line) → m ≡ v .last + 1 → ys ≡ marked (vec-items (v .table .lines)) i true → zs ≡ marked ys l true → us ≡ zs ++ line m (Block j a b) false ∷ []
       → (h : History) → Keeps h v → Holds (Join j a b ∷ h) us (v .last + 1)
   join-next m ys zs us new first second added h k = join-step h (vec-items (v .table .lines)) (v .last) k j a b i l m ys zs us (join-open h k) (p .0) (q .0) new first second added
+
+-- at most 31 lines stand in a book
+pub few-held : (v : Book) → length (vec-items (v .table .lines)) ≤ 31
+few-held v = ∥∥₁-elim (v .kept) (λ x y. le-prop x y) (λ k. omega (arith, ap length (k .1 .lines), few-lines (k .0) (k .1 .lawful)))

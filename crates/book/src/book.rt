@@ -1,6 +1,7 @@
 mod changes;
 mod new;
 mod questions;
+pub mod snapshot;
 
 ghost use Prim.Native.Nat.{ℕ, _≤_};
 ghost use Rattle.std.specs.Of.Vec.{vec-items, vec-cap};

@@ -239,6 +239,25 @@ join-room h l a b j =
     (cases-bool (has (a ∷ b ∷ []) n))) in
     omega (arith, few-items h l, free-lines h l, items-and-blocks h, lines-length h)
 
+-- at most 31 lines stand
+pub few-lines : (h : History) → Lawful h → length (lines-of h) ≤ 31
+few-lines [] l = omega arith
+few-lines (Issue t ∷ h) l =
+    let a = how-many-add isSome (standing h) (given h) (mapped Item (type-numbered t)) in
+    let b = one (mapped Item (type-numbered t)) in
+    ⊎-elim (λ lt. omega (arith, issue-room h (l .1) lt, lines-length h, lines-length (Issue t ∷ h))) (λ le. absurd (l .0 .1 .0 le)) (cases-lt (items-standing h) 16)
+  where
+    one : (p : Option Part) → cond {A = ℕ} (isSome p) 1 0 ≤ 1
+    one None = omega arith
+    one (Some p) = omega arith
+few-lines (Join k a b ∷ h) l =
+    let more = how-many-add isSome (standing h) (given h) (Some (Block k a b)) in
+    omega (arith, join-room h (l .1) (a .value) (b .value) (joinable h k a b (l .0)), lines-length h, lines-length (Join k a b ∷ h))
+few-lines (Withdraw x ∷ h) l =
+    let u = usable h (x .value) (l .0) in
+    let less = how-many-out isSome (standing h) (given h) (x .value) refl (u .positive) (u .given) in
+    omega (arith, few-lines h (l .1), lines-length h, lines-length (Withdraw x ∷ h))
+
 -- a count of the table's lines by their parts
 pub lines-count : (f : Option Part → Bool) → f None ≡ false → (h : History) → countBy (λ (l : Line). f (Some (l .part))) (lines-of h) ≡ how-many (given h) (λ n. f (standing h n))
 lines-count f off h = listing-count (line-of h) (λ (l : Line). f (Some (l .part))) (λ n. f (standing h n)) (given h) (λ n. each n (standing h n))
