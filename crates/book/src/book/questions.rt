@@ -1,7 +1,7 @@
 ghost use mathlib.Core.Path.{_≡_};
 ghost use Prim.Native.Nat.{ℕ};
 ghost use Rattle.std.specs.Of.Vec.{vec-items};
-ghost use Rattle.rules.specs.History.{History, lines-of};
+ghost use Rattle.rules.specs.History.{History, given, lines-of};
 ghost use Rattle.book.specs.Keeps.{Keeps, Seeks, Asks};
 use super::Book;
 use rules::line::Line;
@@ -22,6 +22,13 @@ impl Book {
         ensures { λ r. ⌜ ((h : History) → Keeps h (now (self .entry)) → now r ≡ lines-of h) ⌝ }
     {
         self.table.lines.as_slice()
+    }
+
+    // The last number given, which is how many were given.
+    pub fn last_number(&self) -> u32
+        ensures { λ r. ⌜ ((h : History) → Keeps h (now (self .entry)) → r ≡ given h) ⌝ }
+    {
+        self.last
     }
 
     // The place of the standing line with the number.

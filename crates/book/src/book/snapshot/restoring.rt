@@ -33,7 +33,9 @@ impl Book {
         ensures { λ _. ⌜ Shows (now (snapshot .entry)) (now (self .exit)) ⌝ }
     {
         self.table.lines.clear();
-        let _ = self.table.lines.extend_from_slice(&snapshot.lines[0..snapshot.count]);
+        let _ = self.table
+            .lines
+            .extend_from_slice(&snapshot.lines[0..snapshot.count]);
         self.last = snapshot.last;
     }
 }

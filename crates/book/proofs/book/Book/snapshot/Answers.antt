@@ -23,12 +23,13 @@ loop-place-again c =
     let xs = vec-items (c .args .self .now .table .lines) in
     let i = c .loop-place .place in
     let lt : i < length xs = omega (arith, c .args .self .now .table .lines .ok .0) in
-    let x = c .index .result .now in
-    ( length-set (c .loop-place .lines) i x ∙ c .loop-place .inv .0
-    , take-more-set (c .loop-place .lines) i x (omega (arith, c .loop-place .inv .0, few-held (c .args .self .now)))
-        ∙ ap (λ (ys : List Line). ys ++ x ∷ []) (c .loop-place .inv .1)
-        ∙ ap (λ (y : Line). take i xs ++ y ∷ []) (getD-read xs i x lt (c .index .ensures) no-line)
-        ∙ sym (take-more xs i no-line lt) )
+    let x = c .index .result .now in (
+      length-set (c .loop-place .lines) i x ∙ c .loop-place .inv .0,
+      take-more-set (c .loop-place .lines) i x (omega (arith, c .loop-place .inv .0, few-held (c .args .self .now)))
+          ∙ ap (λ (ys : List Line). ys ++ x ∷ []) (c .loop-place .inv .1)
+          ∙ ap (λ (y : Line). take i xs ++ y ∷ []) (getD-read xs i x lt (c .index .ensures) no-line)
+          ∙ sym (take-more xs i no-line lt),
+    )
 
 -- the lines that were copied are all
 copied : (v : Book) (n i : ℕ) (ys : List Line) → n ≡ vec-len (v .table .lines) → n ≤ i → i ≤ n → take i ys ≡ take i (vec-items (v .table .lines)) → vec-items (v .table .lines) ≡ take n ys

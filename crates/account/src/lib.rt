@@ -1,0 +1,29 @@
+pub mod calls;
+
+ghost use mathlib.Core.Path.{_≡_};
+ghost use Rattle.account.specs.Runs.{Whole-runs, Accounts};
+use book::book::Book;
+
+// How the numbers of a book were used.
+#[derive(Clone, Copy, PartialEq, Eq, Debug)]
+pub struct Numbers {
+    pub given: u32,
+    pub standing: u32,
+    pub withdrawn: u32,
+}
+
+// How many numbers a book has given, how many lines stand, and how many withdrawals were made. The
+// book does not count its withdrawals: they are what is left, since every run of calls keeps the law
+// that numbers given are lines standing and withdrawals made.
+pub fn account(book: &Book) -> Numbers
+    ensures runs { λ _. ⌜ Whole-runs ⌝ }
+    ensures here { λ r. ⌜ Accounts (now (book .entry)) (r .given) (r .standing) (r .withdrawn) ⌝ }
+{
+    let given = book.last_number();
+    let standing = book.lines().len() as u32;
+    Numbers {
+        given,
+        standing,
+        withdrawn: given - standing,
+    }
+}
