@@ -40,6 +40,14 @@ how-many-same p q (suc m) same =
     let b = how-many-same p q m (λ n lo hi. same n lo (omega arith)) in
     omega arith
 
+pub how-many-more-numbers : (p : ℕ → Bool) (k m : ℕ) → k ≤ m → how-many k p ≤ how-many m p
+how-many-more-numbers p k zero le = let e : k ≡ 0 = omega arith in omega (arith, ap (λ (j : ℕ). how-many j p) e)
+how-many-more-numbers p k (suc m) le =
+    ⊎-elim
+    (λ (e : k ≡ suc m). omega (arith, ap (λ (j : ℕ). how-many j p) e))
+    (λ ne. omega (arith, how-many-more-numbers p k m (omega arith)))
+    (cases-eq k (suc m))
+
 -- one number passes q and not p, and all else is alike
 pub how-many-one : (p q : ℕ → Bool) (a m : ℕ) → 0 < a → a ≤ m → p a ≡ false → q a ≡ true → ((n : ℕ) → (n ≡ a → ⊥) → q n ≡ p n) → how-many m q ≡ suc (how-many m p)
 how-many-one p q a zero pos le off on same = absurd (omega arith)

@@ -141,3 +141,17 @@ module _ {X : Type 0} where
         ∙ ap (λ (o : Option X). removed (listing f m) i ++ listOf o) (same (suc m) (λ e. s (sym e)))
         ∙ sym (removed-left (listing f m) (listOf (f (suc m))) i low))
         (cases-eq a (suc m))
+
+    -- an element stands after as many as have lower numbers
+    pub listing-place : (n m i : ℕ) → i < length (listing f m) → number (getD (listing f m) i d) ≡ suc n → i ≡ how-many n (λ k. isSome (f k))
+    listing-place n zero i lt at = absurd (omega arith)
+    listing-place n (suc m) i lt at =
+        ⊎-elim
+        (λ (s : suc n ≡ suc m).
+        let p = last-in (listing f m) (f (suc m)) i d (late (suc n) m i s lt at) lt in
+        let e : n ≡ m = omega arith in
+        p .1 ∙ listing-length f m ∙ ap (λ (k : ℕ). how-many k (λ j. isSome (f j))) (sym e))
+        (λ (s : suc n ≡ suc m → ⊥).
+        let low = early (suc n) m i s lt at in
+        listing-place n m i low (sym (ap number (getD-append-left (listing f m) (listOf (f (suc m))) d i low)) ∙ at))
+        (cases-eq (suc n) (suc m))

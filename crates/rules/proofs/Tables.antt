@@ -40,7 +40,7 @@ mapped-some : (g : Part → Line) (o : Option Part) (l : Line) → mapped g o �
 mapped-some g None l e = absurd (let z : _≡_ {A = ℕ} 0 1 = cc in omega arith)
 mapped-some g (Some p) l e = (p, refl, cc)
 
-laid-number : (o : ℕ → Option Part) (v : ℕ → Bool) (n : ℕ) (l : Line) → laid o v n ≡ Some l → l .number .value ≡ n
+pub laid-number : (o : ℕ → Option Part) (v : ℕ → Bool) (n : ℕ) (l : Line) → laid o v n ≡ Some l → l .number .value ≡ n
 laid-number o v n l e = let r = mapped-some (λ p. line n p (v n)) (o n) l e in sym (ap (λ (x : Line). x .number .value) (r .2))
 
 -- the line with the number n stands at a place of the table

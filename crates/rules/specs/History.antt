@@ -114,3 +114,8 @@ listing f (suc m) = listing f m ++ listOf (f (suc m))
 -- the standing lines, in rising number
 abbrev pub lines-of : History → List Line
 lines-of h = listing (line-of h) (given h)
+
+-- the place of the line n among the standing lines, from 0: how many lines with lower numbers stand
+abbrev pub place-in : History → ℕ → ℕ
+place-in h zero = 0
+place-in h (suc n) = how-many n (λ m. isSome (standing h m))

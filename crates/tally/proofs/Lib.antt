@@ -1,0 +1,4 @@
+pub mod Wrapping
+pub mod Counting
+pub mod Capped
+pub mod Losses
