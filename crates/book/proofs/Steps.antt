@@ -12,7 +12,7 @@ use Rattle.std.specs.Of.Vec.{vec-items}
 use Rattle.std.specs.shelf.Lists.{removed, countBy}
 use Rattle.std.specs.declared.option.Option.{Option}
 use Rattle.std.specs.declared.option.Option.the-variants.{Some, None}
-use Rattle.std.proofs.shelf.Tests.{both-ways}
+use Rattle.std.proofs.shelf.Tests.{cases-lt, both-ways}
 use Rattle.rules.specs.declared.change.Change.the-variants.{Issue, Join, Withdraw}
 use Rattle.rules.specs.declared.item_type.ItemType.{ItemType}
 use Rattle.rules.specs.declared.kind.Kind.{Kind}
@@ -25,13 +25,13 @@ use Rattle.rules.specs.Types.{type-number, type-numbered}
 use Rattle.rules.specs.Tables.{no-line, marked, At, Missing, Released}
 use Rattle.rules.specs.History.{History, given, standing, built-in, is-item, is-item-of, items-standing, items-of-type, line-of, lines-of}
 use Rattle.rules.specs.Rules.{Allowed, Refused}
-use Rattle.rules.specs.Ruled.{naming, using-line, change-rules, Lawful}
+use Rattle.rules.specs.Ruled.{naming, using-line, joining, change-rules, Lawful}
 use Rattle.rules.proofs.Sound.{joinable}
 use Rattle.rules.proofs.Tables.{line, line-there, part-there, not-there, issue-lines, join-lines, item-out, block-out}
-use Rattle.rules.proofs.Limits.{type-of-number, lines-count, issue-room, join-room, few-lines}
+use Rattle.rules.proofs.Limits.{type-of-number, lines-count, issue-room, join-room, few-lines, few-given}
 use Rattle.book.specs.declared.book.Book.{Book}
 use Rattle.book.specs.Kept.{Holds}
-use Rattle.book.specs.Keeps.{Keeps, Found}
+use Rattle.book.specs.Keeps.{Keeps}
 use Rattle.book.specs.Tables.{item-line, item-line-of}
 
 pub some-not-none : {X : Type 0} (o : Option X) (x : X) → o ≡ Some x → o ≡ None → ⊥
@@ -60,12 +60,12 @@ module _ (h : History) (xs : List Line) (n : ℕ) (k : Holds h xs n) where
     ),
   )
 
-  pub issue-step : (t m : ℕ) (u : ItemType) (ys : List Line) → type-numbered t ≡ Some u → countBy item-line xs < 16 → countBy (item-line-of (type-number u)) xs < 7 → n < 9999
+  pub issue-step : (t m : ℕ) (u : ItemType) (ys : List Line) → Allowed (change-rules h (Issue t)) → type-numbered t ≡ Some u
       → m ≡ n + 1 → ys ≡ xs ++ line m (Item u) false ∷ [] → Holds (Issue t ∷ h) ys (n + 1)
-  issue-step t m u ys e few of-type low new added =
+  issue-step t m u ys allowed e new added =
       let next : n + 1 ≡ suc (given h) = add-one n ∙ ap suc (k .last) in
       record {
-        lawful = (issue-allowed t u e few of-type low, k .lawful);
+        lawful = (allowed, k .lawful);
         lines = added
             ∙ ap (λ (zs : List Line). zs ++ line m (Item u) false ∷ []) (k .lines)
             ∙ ap (λ (i : ℕ). lines-of h ++ line i (Item u) false ∷ []) (new ∙ next)
@@ -73,8 +73,8 @@ module _ (h : History) (xs : List Line) (n : ℕ) (k : Holds h xs n) where
         last = next;
       }
 
-  pub issue-fits : countBy item-line xs < 16 → length xs < 31
-  issue-fits few = omega (arith, ap length (k .lines), issue-room h (k .lawful) (omega (arith, items-are)))
+  pub issue-fits : (t : ℕ) → Allowed (change-rules h (Issue t)) → length xs < 31
+  issue-fits t allowed = ⊎-elim (λ lt. omega (arith, ap length (k .lines), issue-room h (k .lawful) lt)) (λ le. absurd (allowed .1 .0 le)) (cases-lt (items-standing h) 16)
 
   -- a line that is named
   within : (m : ℕ) → 0 < m → m ≤ n → ((m ≡ 0) ⊎ (given h < m)) → ⊥
@@ -109,8 +109,8 @@ module _ (h : History) (xs : List Line) (n : ℕ) (k : Holds h xs n) where
       line-there (standing h) (built-in h) (given h) i m (b .0) (b .1) ∙ ap (λ (ys : List Line). Some (getD ys i no-line)) (sym (k .lines))
 
   -- a joining
-  pub join-allowed : (j : Kind) (a b : PartNumber) → Allowed (using-line h (a .value)) → Allowed (using-line h (b .value)) → (a .value ≡ b .value → ⊥) → n < 9999 → Allowed (change-rules h (Join j a b))
-  join-allowed j a b p q ne low = (p .0, (p .1 .0, (p .1 .1 .0, (q .0, (q .1 .0, (q .1 .1 .0, (ne, ((λ w. omega (arith, k .last)), tt))))))))
+  pub join-allowed : (a b : ℕ) → Allowed (using-line h a) → Allowed (using-line h b) → (a ≡ b → ⊥) → n < 9999 → Allowed (joining h a b)
+  join-allowed a b p q ne low = (p .0, (p .1 .0, (p .1 .1 .0, (q .0, (q .1 .0, (q .1 .1 .0, (ne, ((λ w. omega (arith, k .last)), tt))))))))
 
   pub join-step : (j : Kind) (a b : PartNumber) (i l m : ℕ) (ys zs us : List Line) → Allowed (change-rules h (Join j a b)) → At xs (a .value) i → At xs (b .value) l
       → m ≡ n + 1 → ys ≡ marked xs i true → zs ≡ marked ys l true → us ≡ zs ++ line m (Block j a b) false ∷ [] → Holds (Join j a b ∷ h) us (n + 1)
@@ -161,18 +161,14 @@ use-allowed h m a off = (a .0, (a .1 .0, ((λ on. both-ways (built-in h m) off o
 pub use-refused : (h : History) (m : ℕ) → Allowed (naming h m) → built-in h m ≡ true → Refused (using-line h m) BuiltIn
 use-refused h m a on = inr (a .0, inr (a .1 .0, inl (on, refl)))
 
--- the joining of two free lines of a book
-module _ (v : Book) (j : Kind) (a b : PartNumber) (i l : ℕ) (p : Found (a .value) v i) (q : Found (b .value) v l) (differ : a .value ≡ b .value → ⊥) (low : v .last < 9999) where
-  pub join-open : (h : History) → Keeps h v → Allowed (change-rules h (Join j a b))
-  join-open h k = join-allowed h (vec-items (v .table .lines)) (v .last) k j a b (p .1 h k) (q .1 h k) differ low
+-- what holds of every history that a book keeps, and says nothing of it, holds
+pub kept-bound : (v : Book) (a b : ℕ) → ((h : History) → Keeps h v → a ≤ b) → a ≤ b
+kept-bound v a b f = ∥∥₁-elim (v .kept) (λ x y. le-prop x y) (λ k. f (k .0) (k .1))
 
-  pub join-room-left : length (vec-items (v .table .lines)) < 31
-  join-room-left = ∥∥₁-elim (v .kept) (λ x y. le-prop x y) (λ k. join-fits (k .0) (vec-items (v .table .lines)) (v .last) (k .1) j a b (join-open (k .0) (k .1)))
-
-  pub join-next : (m : ℕ) (ys zs us : List Line) → m ≡ v .last + 1 → ys ≡ marked (vec-items (v .table .lines)) i true → zs ≡ marked ys l true → us ≡ zs ++ line m (Block j a b) false ∷ []
-      → (h : History) → Keeps h v → Holds (Join j a b ∷ h) us (v .last + 1)
-  join-next m ys zs us new first second added h k = join-step h (vec-items (v .table .lines)) (v .last) k j a b i l m ys zs us (join-open h k) (p .0) (q .0) new first second added
+-- at most 9,999 numbers were given
+pub few-numbers : (v : Book) → v .last ≤ 9999
+few-numbers v = kept-bound v _ _ (λ h k. omega (arith, k .last, few-given h (k .lawful)))
 
 -- at most 31 lines stand in a book
 pub few-held : (v : Book) → length (vec-items (v .table .lines)) ≤ 31
-few-held v = ∥∥₁-elim (v .kept) (λ x y. le-prop x y) (λ k. omega (arith, ap length (k .1 .lines), few-lines (k .0) (k .1 .lawful)))
+few-held v = kept-bound v _ _ (λ h k. omega (arith, ap length (k .lines), few-lines h (k .lawful)))

@@ -20,6 +20,14 @@ pub struct Table {
 }
 
 impl Table {
+    // The line at `place`.
+    pub fn at(&self, place: usize) -> Line
+        requires { ⌜ place < vec-len (now self .lines) ⌝ }
+        ensures { λ r. ⌜ r ≡ getD (vec-items (now (self .entry) .lines)) place no-line ⌝ }
+    {
+        self.lines[place]
+    }
+
     // Changes the mark of the line at `place`, and nothing else.
     pub fn mark(&mut self, place: usize, built_in: bool)
         requires { ⌜ place < vec-len (now self .lines) ⌝ }

@@ -27,12 +27,14 @@ naming h n =
 abbrev pub using-line : History → ℕ → List Rule
 using-line h n = naming h n ++ BuiltIn when (built-in h n ≡ true) ∷ []
 
--- why two lines may not be joined, once each may be used
+-- why the lines a and b may not be joined
 abbrev pub joining : History → ℕ → ℕ → List Rule
 joining h a b =
-    SameLine when (a ≡ b)
+    using-line h a
+    ++ (using-line h b
+    ++ SameLine when (a ≡ b)
     ∷ NumbersUsedUp when (9999 ≤ given h)
-    ∷ []
+    ∷ [])
 
 -- why a change may not be made
 abbrev pub change-rules : History → Change → List Rule
@@ -42,8 +44,7 @@ change-rules h (Issue t) =
     ∷ TooManyOfType when (7 ≤ items-of-type t h)
     ∷ NumbersUsedUp when (9999 ≤ given h)
     ∷ []
-change-rules h (Join k a b) =
-    using-line h (a .value) ++ (using-line h (b .value) ++ joining h (a .value) (b .value))
+change-rules h (Join k a b) = joining h (a .value) (b .value)
 change-rules h (Withdraw n) = using-line h (n .value)
 
 -- the number that an accepted change answers: the one given, or the one taken out

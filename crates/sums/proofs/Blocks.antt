@@ -1,5 +1,5 @@
 -- The sums of an item, and of a block from those of its lines.
-use mathlib.Core.Path.{_≡_, refl, sym, ap, ap₂, _∙_}
+use mathlib.Core.Path.{_≡_, refl, ap, ap₂, _∙_}
 use mathlib.Core.List.{[], _∷_, _++_}
 use mathlib.Core.Bool.{Bool, true, false, cond, not, _&&_, _||_}
 use Prim.Native.Nat.{ℕ}
@@ -8,14 +8,13 @@ use Rattle.std.specs.declared.option.Option.the-variants.{Some}
 use Rattle.rules.specs.declared.item_type.ItemType.{ItemType}
 use Rattle.rules.specs.declared.kind.Kind.{Kind}
 use Rattle.rules.specs.declared.kind.Kind.the-variants.{Series, Parallel}
-use Rattle.rules.specs.Kinds.{block-works}
-use Rattle.rules.specs.Trees.{State, Tree, item, block, items, works}
+use Rattle.rules.specs.Trees.{Tree, item, block, items, works}
 use Rattle.sums.specs.Semiring.{Meaning, Semiring}
 use Rattle.sums.specs.States.{all-failed, put}
-use Rattle.sums.specs.Sums.{figure, weight, sum-over, working-sum, failing-sum}
-use Rattle.sums.specs.Members.{Apart, Once}
+use Rattle.sums.specs.Sums.{figure, sum-over, working-sum, failing-sum}
+use Rattle.sums.specs.Members.{Apart}
 use Rattle.sums.specs.Blocks.{block-working, block-failing, Block-sums-stand}
-use Rattle.sums.proofs.States.{Blind, put-same, none-plus}
+use Rattle.sums.proofs.States.{put-same, none-plus}
 use Rattle.sums.proofs.Pivot.{works-blind, sum-as, pivot, sum-none, sum-all}
 
 module _ {F : Type 0} {m : Meaning F} (laws : Semiring m) (types : ℕ → Option ItemType) where

@@ -4,4 +4,6 @@ pub mod Listed
 pub mod Pivot
 pub mod Blocks
 pub mod Order
+pub mod Rising
 pub mod Forest
+pub mod Places

@@ -1,7 +1,7 @@
 -- The order in which items are listed does not matter, nor whether they go by number or by place.
 use mathlib.Core.Path.{_≡_, refl, sym, ap, ap₂, fun-ext, _∙_}
 use mathlib.Core.List.{List, [], _∷_, map, List·Memᴰ·head, List·Memᴰ·tail, Memᴰ·cast}
-use mathlib.Core.Bool.{Bool, true, false, cond}
+use mathlib.Core.Bool.{Bool, true, false, cond, not}
 use Prim.Native.Nat.{ℕ, zero, suc}
 use native.Mathlib.Nat.{suc-inj}
 use native.Mathlib.Omega.{arith}
@@ -10,13 +10,13 @@ use lib.ListN.{length, getD}
 use Rattle.std.proofs.shelf.Tests.{eqb-true, eqb-false, eq-eqb, ne-eqb, cond-true, cond-false}
 use Rattle.std.specs.declared.option.Option.{Option}
 use Rattle.rules.specs.declared.item_type.ItemType.{ItemType}
-use Rattle.rules.specs.Trees.{State}
+use Rattle.rules.specs.Trees.{State, items, works}
 use Rattle.sums.specs.Semiring.{Meaning, Semiring}
-use Rattle.sums.specs.States.{all-failed, put, states, total, keep}
+use Rattle.sums.specs.States.{all-failed, put, states, total}
 use Rattle.sums.specs.Sums.{figure, weight, sum-over}
 use Rattle.sums.specs.Members.{_∈_, Alike, Distinct}
 use Rattle.sums.specs.Order.{place-of, range, placed, types-at, Order-stands}
-use Rattle.sums.proofs.Members.{without, without-distinct, rest-alike}
+use Rattle.sums.proofs.Members.{once-distinct, without, without-distinct, rest-alike}
 use Rattle.sums.proofs.States.{over, put-swap, plus-medial, times-left, total-keep, total-states}
 
 -- what an operation makes of the elements of a list, where their order does not matter to it
@@ -164,4 +164,6 @@ order-stands laws = record {
   states-placed = states-placed laws;
   order = order laws;
   by-place = by-place laws;
+  working = λ types x once ns d same. by-place laws types ns d (works x) ∙ order laws types ns (items x) d (once-distinct x once) same (works x);
+  failing = λ types x once ns d same. by-place laws types ns d (λ s. not (works x s)) ∙ order laws types ns (items x) d (once-distinct x once) same (λ s. not (works x s));
 }

@@ -8,9 +8,9 @@ use Rattle.rules.specs.declared.item_type.ItemType.{ItemType}
 use Rattle.rules.specs.Kinds.{block-works}
 use Rattle.rules.specs.Trees.{State, Tree, item, block, items, works}
 use Rattle.sums.specs.Semiring.{Meaning, Semiring}
-use Rattle.sums.specs.States.{all-failed, put, states, total, keep}
+use Rattle.sums.specs.States.{all-failed, states, total, keep}
 use Rattle.sums.specs.Sums.{figure, weight, sum-over, working-sum, failing-sum}
-use Rattle.sums.specs.Members.{_∈_, Apart}
+use Rattle.sums.specs.Members.{Apart}
 use Rattle.sums.proofs.States.{over, Blind, put-other, none-plus, none-times, unit-times, total-keep, total-states, over-plus, over-times}
 
 -- a line does not depend on what is not beneath it

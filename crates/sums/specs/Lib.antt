@@ -5,3 +5,4 @@ pub mod Members
 pub mod Blocks
 pub mod Order
 pub mod Forest
+pub mod Places

@@ -1,6 +1,6 @@
 -- Lists of numbers by what they hold, and trees in which no item stands twice.
 use mathlib.Core.List.{List, [], _∷_, List·Memᴰ}
-use Prim.Native.Nat.{ℕ}
+use Prim.Native.Nat.{ℕ, _<_}
 use Rattle.rules.specs.Trees.{Tree, item, block, items}
 
 infix 50 _∈_
@@ -20,6 +20,11 @@ Alike a b = (i : ℕ) → (i ∈ a → i ∈ b) × (i ∈ b → i ∈ a)
 abbrev pub Distinct : List ℕ → Type 0
 Distinct [] = Unit {0}
 Distinct (i ∷ is) = (i ∈ is → ⊥) × Distinct is
+
+-- each number is below all that follow it
+abbrev pub Rising : List ℕ → Type 0
+Rising [] = Unit {0}
+Rising (i ∷ is) = ((j : ℕ) → j ∈ is → i < j) × Rising is
 
 -- no item stands twice in the tree
 abbrev pub Once : Tree → Type 0

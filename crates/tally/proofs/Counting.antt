@@ -1,8 +1,8 @@
 -- Under count, a sum over states is their number.
-use mathlib.Core.Path.{_≡_, refl, sym, ap, ap₂, _∙_}
+use mathlib.Core.Path.{_≡_, refl, ap, ap₂, _∙_}
 use mathlib.Core.Bool.{Bool, true, false, cond, not}
 use mathlib.Core.List.{List, [], _∷_}
-use Prim.Native.Nat.{ℕ, suc, _+_, _^_, _%_, _≤_, _<_}
+use Prim.Native.Nat.{ℕ, _≤_}
 use native.Mathlib.Nat.{mod-eq-of-lt}
 use native.Mathlib.Omega.{arith}
 use lib.ListN.{length}
@@ -10,7 +10,7 @@ use lib.Pow.{pow-mono}
 use Rattle.std.specs.declared.option.Option.{Option}
 use Rattle.std.specs.declared.option.Option.the-variants.{Some, None}
 use Rattle.rules.specs.declared.item_type.ItemType.{ItemType}
-use Rattle.rules.specs.Trees.{State, Tree, items, works}
+use Rattle.rules.specs.Trees.{State, items, works}
 use Rattle.sums.specs.States.{all-failed, states, total, keep}
 use Rattle.sums.specs.Sums.{figure, weight, sum-over}
 use Rattle.sums.proofs.Listed.{states-length}

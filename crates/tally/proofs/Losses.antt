@@ -1,5 +1,5 @@
 -- Under prices, a sum over states is the least loss among them.
-use mathlib.Core.Path.{_≡_, refl, sym, ap, ap₂, subst, _∙_}
+use mathlib.Core.Path.{_≡_, refl, sym, ap, subst, _∙_}
 use mathlib.Core.Logic.{_⊎_, inl, inr, ⊎-elim}
 use mathlib.Core.Bool.{Bool, true, false, cond, not}
 use mathlib.Core.List.{List, [], _∷_, List·Memᴰ, List·Memᴰ·head, List·Memᴰ·tail}
@@ -13,11 +13,10 @@ use Rattle.rules.specs.declared.item_type.ItemType.{ItemType}
 use Rattle.rules.specs.declared.item_type.ItemType.the-variants.{One, Two, Three}
 use Rattle.rules.specs.Trees.{State, Tree, items, works}
 use Rattle.sums.specs.States.{all-failed, states, total, keep}
-use Rattle.sums.specs.Sums.{figure, weight, sum-over, failing-sum}
+use Rattle.sums.specs.Sums.{figure, weight, failing-sum}
 use Rattle.sums.proofs.Listed.{listed, works-agree, nothing-works, total-same}
-use Rattle.tally.specs.declared.loss.Loss.{Loss}
 use Rattle.tally.specs.declared.prices.Prices.{Prices}
-use Rattle.tally.specs.Pricing.{price-of, lost, prices}
+use Rattle.tally.specs.Pricing.{price-of, prices}
 use Rattle.tally.specs.Losses.{item-loss, loss-in, Cheapest-loss, Cheapest-loss-stands}
 
 module _ (p : Prices) (types : ℕ → Option ItemType) where

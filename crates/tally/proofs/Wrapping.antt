@@ -1,5 +1,5 @@
 -- Counts modulo 2^32: those of one value are one, and they are a commutative semiring.
-use mathlib.Core.Path.{_≡_, refl, ap, sym, _∙_}
+use mathlib.Core.Path.{_≡_, ap, sym, _∙_}
 use mathlib.Core.HLevel.{isProp→PathP}
 use Prim.Native.Nat.{ℕ, _+_, _*_, _/_, _%_, _<_}
 use native.Mathlib.Nat.{mod-eq-of-lt, mod-add-div, mod-mod, mod-add-mod, add-mod-mod, add-mul-mod-self-left, add-comm, add-assoc, add-zero, mul-comm, mul-assoc, mul-add, mul-one, mul-zero}

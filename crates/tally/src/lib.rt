@@ -2,6 +2,8 @@ pub mod count;
 pub mod loss;
 pub mod prices;
 pub mod state_count;
+#[cfg(test)]
+mod tests;
 pub mod theorems;
 
 ghost use mathlib.Core.Path.{_≡_};

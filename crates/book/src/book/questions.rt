@@ -14,7 +14,7 @@ impl Book {
         ensures { λ r. ⌜ Asks (number .value) (now (self .entry)) r ⌝ }
     {
         let place = self.seek(number)?;
-        Ok(self.table.lines[place])
+        Ok(self.table.at(place))
     }
 
     // The standing lines, in rising number.

@@ -16,7 +16,7 @@ pub returns-then-len-lines : need.returns-then-len-lines
 returns-then-len-lines g c = record {
   answer = record {
     answer = λ h k.
-        let a = c .in-Continue-place .ensures tt .1 h k in
+        let a = c .in-Continue-place .ensures tt .1 h k .0 in
         inr (a .0, inr (a .1 .0, inl (omega (arith, ap length (c .lines .ensures h k), lines-length h), refl)));
     bench = refl;
   };
@@ -32,7 +32,7 @@ returns g c = record {
     answer = λ h k.
         let n = c .args .number .value in
         let f = c .in-Continue-place .ensures tt in
-        let a = f .1 h k in (
+        let a = f .1 h k .0 in (
           (a .0, (a .1 .0, ((λ w. omega (arith, ap length (c .lines .ensures h k), lines-length h)), tt))),
           at-place h n (c .in-Continue-place .place) (⊎-elim (λ lt. lt) (λ z. absurd (a .0 (inl (omega arith)))) (cases-lt 0 n)) (subst (λ (xs : List Line). At xs n (c .in-Continue-place .place)) (k .lines) (f .0)),
         );

@@ -6,20 +6,19 @@ use Rattle.std.specs.Of.Vec.{vec-items}
 use Rattle.rules.specs.declared.change.Change.the-variants.{Withdraw}
 use Rattle.rules.specs.declared.line.Line.{Line}
 use Rattle.book.proofs.Steps.{item-step, block-step}
-use Rattle.book.proofs.book.Book.withdraw.Needs as need
+use Rattle.book.proofs.book.Book.take_out.Needs as need
 
 pub ghost-self : need.ghost-self
 ghost-self c =
     let b = c .args .self .now in
-    let f = c .in-Continue-place .ensures tt in
     let part = ap (λ (l : Line). l .part) (sym (c .take-out-line .ensures .value)) ∙ c .in-Block .is in (
       omega arith,
       (
         ∥∥₁-map (b .kept) (λ k. (
           Withdraw (c .args .number) ∷ k .0,
-          block-step (k .0) (vec-items (b .table .lines)) (b .last) (k .1) (c .args .number) (c .in-Continue-place .place) _ (c .in-Block .a) (c .in-Block .b)
+          block-step (k .0) (vec-items (b .table .lines)) (b .last) (k .1) (c .args .number) (c .args .place) _ (c .in-Block .a) (c .in-Block .b)
               (vec-items (c .take-out-line .last .self .lines)) (vec-items (c .release .last .self .lines)) (vec-items (c .release-in-Block .last .self .lines))
-              (f .1 (k .0) (k .1)) (f .0) part (c .take-out-line .ensures .items) (c .release .ensures .items) (c .release-in-Block .ensures .items),
+              (c .pre .1 (k .0) (k .1)) (c .pre .0) part (c .take-out-line .ensures .items) (c .release .ensures .items) (c .release-in-Block .ensures .items),
         )),
         tt,
       ),
@@ -28,36 +27,33 @@ ghost-self c =
 pub ghost-self-in-rest : need.ghost-self-in-rest
 ghost-self-in-rest c =
     let b = c .args .self .now in
-    let f = c .in-Continue-place .ensures tt in
     let part = ap (λ (l : Line). l .part) (sym (c .take-out-line .ensures .value)) ∙ c .in-rest .is in (
       omega arith,
       (
         ∥∥₁-map (b .kept) (λ k. (
           Withdraw (c .args .number) ∷ k .0,
-          item-step (k .0) (vec-items (b .table .lines)) (b .last) (k .1) (c .args .number) (c .in-Continue-place .place) _ (vec-items (c .take-out-line .last .self .lines))
-              (f .1 (k .0) (k .1)) (f .0) part (c .take-out-line .ensures .items),
+          item-step (k .0) (vec-items (b .table .lines)) (b .last) (k .1) (c .args .number) (c .args .place) _ (vec-items (c .take-out-line .last .self .lines))
+              (c .pre .1 (k .0) (k .1)) (c .pre .0) part (c .take-out-line .ensures .items),
         )),
         tt,
       ),
     )
 
 pub returns-in-Block : need.returns-in-Block
-returns-in-Block c =
+returns-in-Block c h k =
     let b = c .args .self .now in
-    let f = c .in-Continue-place .ensures tt in
     let part = ap (λ (l : Line). l .part) (sym (c .take-out-line .ensures .value)) ∙ c .in-Block .is in (
-      (λ h k. block-step h (vec-items (b .table .lines)) (b .last) k (c .args .number) (c .in-Continue-place .place) _ (c .in-Block .a) (c .in-Block .b)
+      block-step h (vec-items (b .table .lines)) (b .last) k (c .args .number) (c .args .place) _ (c .in-Block .a) (c .in-Block .b)
           (vec-items (c .take-out-line .last .self .lines)) (vec-items (c .release .last .self .lines)) (vec-items (c .release-in-Block .last .self .lines))
-          (f .1 h k) (f .0) part (c .take-out-line .ensures .items) (c .release .ensures .items) (c .release-in-Block .ensures .items)),
-      λ h k. (f .1 h k, refl),
+          (c .pre .1 h k) (c .pre .0) part (c .take-out-line .ensures .items) (c .release .ensures .items) (c .release-in-Block .ensures .items),
+      refl,
     )
 
 pub returns-in-rest : need.returns-in-rest
-returns-in-rest c =
+returns-in-rest c h k =
     let b = c .args .self .now in
-    let f = c .in-Continue-place .ensures tt in
     let part = ap (λ (l : Line). l .part) (sym (c .take-out-line .ensures .value)) ∙ c .in-rest .is in (
-      (λ h k. item-step h (vec-items (b .table .lines)) (b .last) k (c .args .number) (c .in-Continue-place .place) _ (vec-items (c .take-out-line .last .self .lines))
-          (f .1 h k) (f .0) part (c .take-out-line .ensures .items)),
-      λ h k. (f .1 h k, refl),
+      item-step h (vec-items (b .table .lines)) (b .last) k (c .args .number) (c .args .place) _ (vec-items (c .take-out-line .last .self .lines))
+          (c .pre .1 h k) (c .pre .0) part (c .take-out-line .ensures .items),
+      refl,
     )
