@@ -9,10 +9,11 @@ use native.Mathlib.Numerals.{add-one}
 use native.Mathlib.Bridge.{le-prop}
 use lib.ListN.{length, getD}
 use Rattle.std.specs.Of.Vec.{vec-items}
+use Rattle.std.specs.Options.{isSome}
 use Rattle.std.specs.shelf.Lists.{removed, countBy}
 use Rattle.std.specs.declared.option.Option.{Option}
 use Rattle.std.specs.declared.option.Option.the-variants.{Some, None}
-use Rattle.std.proofs.shelf.Tests.{cases-lt, both-ways}
+use Rattle.std.proofs.shelf.Tests.{cases-lt, both-ways, and-left}
 use Rattle.rules.specs.declared.change.Change.the-variants.{Issue, Join, Withdraw}
 use Rattle.rules.specs.declared.item_type.ItemType.{ItemType}
 use Rattle.rules.specs.declared.kind.Kind.{Kind}
@@ -20,13 +21,14 @@ use Rattle.rules.specs.declared.line.Line.{Line}
 use Rattle.rules.specs.declared.line.Part.{Part}
 use Rattle.rules.specs.declared.line.Part.the-variants.{Item, Block}
 use Rattle.rules.specs.declared.part_number.PartNumber.{PartNumber}
+use Rattle.rules.specs.declared.refusal.Refusal.{Refusal}
 use Rattle.rules.specs.declared.refusal.Refusal.the-variants.{Withdrawn, BuiltIn}
 use Rattle.rules.specs.Types.{type-number, type-numbered}
 use Rattle.rules.specs.Tables.{no-line, marked, At, Missing, Released}
-use Rattle.rules.specs.History.{History, given, standing, built-in, is-item, is-item-of, items-standing, items-of-type, line-of, lines-of}
+use Rattle.rules.specs.History.{History, given, standing, built-in, free, is-item, is-item-of, items-standing, items-of-type, line-of, lines-of}
 use Rattle.rules.specs.Rules.{Allowed, Refused}
 use Rattle.rules.specs.Ruled.{naming, using-line, joining, change-rules, Lawful}
-use Rattle.rules.proofs.Sound.{joinable}
+use Rattle.rules.proofs.Sound.{sound, joinable}
 use Rattle.rules.proofs.Tables.{line, line-there, part-there, not-there, issue-lines, join-lines, item-out, block-out}
 use Rattle.rules.proofs.Limits.{type-of-number, lines-count, issue-room, join-room, few-lines, few-given}
 use Rattle.book.specs.declared.book.Book.{Book}
@@ -172,3 +174,13 @@ few-numbers v = kept-bound v _ _ (λ h k. omega (arith, k .last, few-given h (k 
 -- at most 31 lines stand in a book
 pub few-held : (v : Book) → length (vec-items (v .table .lines)) ≤ 31
 few-held v = kept-bound v _ _ (λ h k. omega (arith, ap length (k .lines), few-lines h (k .lawful)))
+
+-- a line that may not be named is not free
+pub refused-not-free : (h : History) → Lawful h → (m : ℕ) (e : Refusal) → Refused (naming h m) e → free h m ≡ false
+refused-not-free h l m e w =
+    let s = sound h l in
+    let none : standing h m ≡ None → free h m ≡ false = λ z. and-left _ _ (ap isSome z) in
+    none (⊎-elim
+    (λ v. ⊎-elim (λ z. ap (standing h) z ∙ s .at-zero) (λ lt. s .above m lt) (v .0))
+    (λ v. ⊎-elim (λ u. u .0) (λ u. absurd (u .1)) (v .1))
+    w)

@@ -1,7 +1,7 @@
 -- Which calls on a book are refused, and what the others answer, told by the accepted changes before them.
 use mathlib.Core.Path.{_≡_}
 use mathlib.Core.Logic.{_⊎_}
-use mathlib.Core.Bool.{true}
+use mathlib.Core.Bool.{true, cond}
 use mathlib.Core.List.{List, [], _∷_, _++_}
 use Prim.Native.Nat.{ℕ, suc, _<_, _≤_}
 use Rattle.std.specs.declared.option.Option.the-variants.{Some, None}
@@ -13,7 +13,7 @@ use Rattle.rules.specs.declared.part_number.PartNumber.{PartNumber}
 use Rattle.rules.specs.declared.refusal.Refusal.{Refusal}
 use Rattle.rules.specs.declared.refusal.Refusal.the-variants.{UnknownType, TooManyItems, TooManyOfType, NumbersUsedUp, NeverGiven, Withdrawn, BuiltIn, SameLine}
 use Rattle.rules.specs.Types.{type-numbered}
-use Rattle.rules.specs.History.{History, given, standing, built-in, items-standing, items-of-type, line-of}
+use Rattle.rules.specs.History.{History, given, standing, built-in, free, items-standing, items-of-type, line-of}
 use Rattle.rules.specs.Rules.{Rule, _when_, Allowed, Decided}
 
 -- why a call may not name the line n
@@ -52,6 +52,12 @@ abbrev pub change-number : History → Change → ℕ
 change-number h (Issue t) = suc (given h)
 change-number h (Join k a b) = suc (given h)
 change-number h (Withdraw n) = n .value
+
+-- the part number that a refusal of the change is about: of a joining the one that may not be used
+abbrev pub blamed : History → Change → ℕ
+blamed h (Issue t) = 0
+blamed h (Join k a b) = cond (free h (a .value)) (b .value) (a .value)
+blamed h (Withdraw n) = n .value
 
 -- the answer to a change that is asked for after h
 abbrev pub Change-ruled : History → Change → Result PartNumber Refusal → Type 0
