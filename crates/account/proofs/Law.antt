@@ -28,7 +28,7 @@ use Rattle.rules.proofs.Limits.{balance}
 use Rattle.book.specs.declared.book.Book.{Book}
 use Rattle.book.specs.Kept.{Holds}
 use Rattle.book.specs.Keeps.{Keeps, Makes}
-use Rattle.account.specs.Runs.{Call, change, question, history, Ruled, Step, Run, begun, went-on, one-if-answered, answered, Taken-out, Names, Is-refused, Whole-runs}
+use Rattle.account.specs.Runs.{Call, change, question, history, Ruled, Step, Run, one-if-answered, answered, Taken-out, Names, Is-refused, Whole-runs}
 
 -- a run keeps the history of its accepted changes
 made-keeps : (d : Change) (r : Result PartNumber Refusal) (cs : List Call) (b b′ : Book) → Makes d b r b′ → Keeps (history cs) b → Keeps (history (change d r ∷ cs)) b′
@@ -36,21 +36,21 @@ made-keeps d (Ok n) cs b b′ s k = s .0 (history cs) k
 made-keeps d (Err e) cs b b′ s k = subst (Keeps (history cs)) (sym (s .0)) k
 
 pub run-keeps : (cs : List Call) (b : Book) → Run cs b → Keeps (history cs) b
-run-keeps [] b (begun k) = k
-run-keeps (change d r ∷ cs) b′ (went-on {b = b} run s) = made-keeps d r cs b b′ s (run-keeps cs b run)
-run-keeps (question n r ∷ cs) b′ (went-on {b = b} run s) = subst (Keeps (history cs)) (sym (s .1)) (run-keeps cs b run)
+run-keeps [] b k = k
+run-keeps (change d r ∷ cs) b′ (b, run, s) = made-keeps d r cs b b′ s (run-keeps cs b run)
+run-keeps (question n r ∷ cs) b′ (b, run, s) = subst (Keeps (history cs)) (sym (s .1)) (run-keeps cs b run)
 
 -- each moment of a run is a run
 moment : (later before : List Call) (b : Book) → Run (later ++ before) b → (b₀ : Book) × Run before b₀
 moment [] before b run = (b, run)
-moment (c ∷ later) before b (went-on {b = b₀} run s) = moment later before b₀ run
+moment (c ∷ later) before b (b₀, run, s) = moment later before b₀ run
 
 step-ruled : (c : Call) (h : History) (b b′ : Book) → Step c b b′ → Keeps h b → Ruled h c
 step-ruled (change d r) h b b′ s k = s .1 h k
 step-ruled (question n r) h b b′ s k = s .0 h k
 
 newest-ruled : (c : Call) (before : List Call) (b′ : Book) → Run (c ∷ before) b′ → Lawful (history before) × Ruled (history before) c
-newest-ruled c before b′ (went-on {b = b} run s) = let k = run-keeps before b run in (k .lawful, step-ruled c (history before) b b′ s k)
+newest-ruled c before b′ (b, run, s) = let k = run-keeps before b run in (k .lawful, step-ruled c (history before) b b′ s k)
 
 -- a question answers a given number just where it stands
 answers-standing : (h : History) (n : ℕ) (r : Result Line Refusal) → suc n ≤ given h → Question-ruled h (suc n) r → one-if-answered r ≡ cond (isSome (standing h (suc n))) 1 0

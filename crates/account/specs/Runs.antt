@@ -40,9 +40,9 @@ Step (change d r) b b′ = Makes d b r b′
 Step (question n r) b b′ = Asks n b r × (b′ ≡ b)
 
 -- the calls, the newest first, were made on one book from new, which then is b
-pub data Run : List Call → Book → Type 0 where
-  begun : {b : Book} → Keeps [] b → Run [] b
-  went-on : {c : Call} {cs : List Call} {b b′ : Book} → Run cs b → Step c b b′ → Run (c ∷ cs) b′
+abbrev pub Run : List Call → Book → Type 0
+Run [] b = Keeps [] b
+Run (c ∷ cs) b′ = (b : Book) × Run cs b × Step c b b′
 
 -- how many of the numbers from 1 to m a question answers
 abbrev pub one-if-answered : Result Line Refusal → ℕ

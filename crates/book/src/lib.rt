@@ -1,2 +1,4 @@
 pub mod book;
 mod table;
+#[cfg(test)]
+mod tests;

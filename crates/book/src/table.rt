@@ -1,6 +1,6 @@
 ghost use mathlib.Core.Path.{_≡_};
 ghost use Prim.Native.Nat.{ℕ, _+_, _<_, _≤_};
-ghost use lib.ListN.{getD};
+ghost use lib.ListN.{length, getD, take};
 ghost use mathlib.Core.List.{List, [], _∷_, _++_};
 ghost use Rattle.std.specs.shelf.Lists.{removed, countBy};
 ghost use Rattle.std.specs.Of.Vec.{vec-len, vec-items, vec-cap};
@@ -68,6 +68,18 @@ impl Table {
         if let Some(place) = self.find(number) {
             self.mark(place, false);
         }
+    }
+
+    // Puts other lines in the place of all that it has.
+    pub fn replace(&mut self, lines: &[Line; 31], count: usize)
+        requires within { ⌜ count ≤ 31 ⌝ }
+        requires room { ⌜ 31 ≤ vec-cap (now self .lines) ⌝ }
+        requires long { ⌜ length (now lines) ≡ 31 ⌝ }
+        ensures items { λ _. ⌜ vec-items (now (self .exit) .lines) ≡ take count (now (lines .entry)) ⌝ }
+        ensures capacity { λ _. ⌜ 31 ≤ vec-cap (now (self .exit) .lines) ⌝ }
+    {
+        self.lines.clear();
+        let _ = self.lines.extend_from_slice(&lines[0..count]);
     }
 
     // The place of the line with the number.

@@ -94,3 +94,7 @@ how-many-split p q (suc m) sub =
     both true false s = refl
     both false true s = absurd (both-ways false refl (s refl))
     both false false s = refl
+
+-- a test that is harder to pass is passed by fewer
+pub how-many-fewer : (p q : ℕ → Bool) (m : ℕ) → ((n : ℕ) → p n ≡ true → q n ≡ true) → how-many m p ≤ how-many m q
+how-many-fewer p q m sub = omega (arith, how-many-split q p m sub)

@@ -6,6 +6,7 @@ use mathlib.Core.List.{List, [], _∷_, _++_, List·Memᴰ, List·Memᴰ·append
 use Prim.Native.Nat.{ℕ, zero, suc, _+_, _<_, _≤_}
 use native.Mathlib.Omega.{arith}
 use lib.Dec.{eqb}
+use lib.ListN.{length}
 use Rattle.std.specs.Options.{mapped, isSome}
 use Rattle.std.specs.declared.option.Option.{Option}
 use Rattle.std.specs.declared.option.Option.the-variants.{Some, None}
@@ -17,14 +18,15 @@ use Rattle.rules.specs.declared.line.Part.{Part}
 use Rattle.rules.specs.declared.line.Part.the-variants.{Item, Block}
 use Rattle.rules.specs.declared.part_number.PartNumber.{PartNumber}
 use Rattle.rules.specs.Types.{type-numbered}
-use Rattle.rules.specs.History.{History, given, standing, has, under}
+use Rattle.rules.specs.History.{History, given, standing, has, under, is-item}
 use Rattle.rules.specs.Ruled.{Lawful}
 use Rattle.rules.specs.Trees.{Tree, item, block, items, Is-tree, tree-of, type-at, type-in}
-use Rattle.rules.proofs.Counting.{cond-cases}
-use Rattle.rules.proofs.Sound.{changed, Sound, sound, some-low, not-over, Usable, usable, Joinable, joinable, item-under}
-use Rattle.rules.proofs.Limits.{known-type}
-use Rattle.sums.specs.Members.{_∈_, Apart, Once}
+use Rattle.rules.proofs.Counting.{cond-cases, how-many-more, how-many-fewer, Distinct as Unlike}
+use Rattle.rules.proofs.Sound.{changed, Sound, sound, some-low, some-positive, not-over, Usable, usable, Joinable, joinable, item-under}
+use Rattle.rules.proofs.Limits.{known-type, few-items}
+use Rattle.sums.specs.Members.{_∈_, Apart, Distinct, Once}
 use Rattle.sums.specs.Forest.{Tree-stands, Trees-stand}
+use Rattle.sums.proofs.Members.{has-from, once-distinct}
 
 -- two lines of a block lie beneath it
 over-left : (p : Option Part) (k : Kind) (a b : PartNumber) → p ≡ Some (Block k a b) → has (under p) (a .value) ≡ true
@@ -307,3 +309,20 @@ trees-stand h l n e = record {
   once = tree-once h l n e;
   typed = λ i m. let r = item-stands h (tree-of h n) n (tree-stands h l n e) i m in (r .0, ap type-at (r .1));
 }
+
+distinct-has : (is : List ℕ) → Distinct is → Unlike is
+distinct-has [] d = tt
+distinct-has (i ∷ is) d = (⊎-elim (λ on. absurd (d .0 (has-from is i on))) (λ off. off) (cases-bool (has is i)), distinct-has is (d .1))
+
+-- at most 16 items lie beneath a line
+pub few-beneath : (h : History) → Lawful h → (n : ℕ) → isSome (standing h n) ≡ true → length (items (tree-of h n)) ≤ 16
+few-beneath h l n on =
+    let is = items (tree-of h n) in
+    let s = sound h l in
+    let at : (i : ℕ) → has is i ≡ true → (t : ItemType) × (standing h i ≡ Some (Item t)) = λ i e. item-stands h (tree-of h n) n (tree-stands h l n on) i (has-from is i e) in
+    let stands : (i : ℕ) → has is i ≡ true → isSome (standing h i) ≡ true = λ i e. ap isSome (at i e .1) in
+    let all = how-many-more is (λ _. false) (given h) (distinct-has is (once-distinct (tree-of h n) (tree-once h l n on)))
+    (λ i e. (some-positive (standing h) (given h) s i (stands i e), some-low (standing h) (given h) s i (stands i e), refl)) in
+    let fewer = how-many-fewer (λ i. has is i || false) (λ i. is-item (standing h i)) (given h)
+    (λ i e. ap is-item (at i (⊎-elim (λ y. y) (λ y. absurd (both-ways false refl y)) (or-cases _ _ e)) .1)) in
+    omega (arith, few-items h l)

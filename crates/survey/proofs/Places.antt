@@ -10,7 +10,7 @@ use Rattle.std.specs.Of.Vec.{vec-items}
 use Rattle.std.specs.Options.{mapped, isSome}
 use Rattle.std.specs.declared.option.Option.{Option}
 use Rattle.std.specs.declared.option.Option.the-variants.{Some, None}
-use Rattle.std.proofs.shelf.Lists.{getD-map, getD-take, length-map, take-more, take-more-set, take-all, take-append-drop, drop-set-lt, drop-drop}
+use Rattle.std.proofs.shelf.Lists.{getD-map, getD-take, length-map, length-append, take-more, take-more-set, take-all, take-append-drop, drop-set-lt, drop-drop}
 use Rattle.std.proofs.shelf.Tests.{both-ways, cond-true}
 use Rattle.rules.specs.declared.item_type.ItemType.{ItemType}
 use Rattle.rules.specs.declared.kind.Kind.{Kind}
@@ -24,7 +24,7 @@ use Rattle.rules.specs.Tables.{no-line, At}
 use Rattle.rules.specs.History.{History, given, standing, built-in, how-many, line-of, lines-of, place-in}
 use Rattle.rules.specs.Rules.{Allowed, Refused}
 use Rattle.rules.specs.Ruled.{naming, Lawful}
-use Rattle.rules.specs.Trees.{Tree, block, tree-of, type-at, type-in}
+use Rattle.rules.specs.Trees.{Tree, block, items, tree-of, type-at, type-in}
 use Rattle.rules.proofs.Counting.{how-many-same, how-many-more-numbers}
 use Rattle.rules.proofs.Listings.{listing-has, listing-place}
 use Rattle.rules.proofs.Sound.{sound, some-low, some-positive}
@@ -154,3 +154,18 @@ pub filled : {F : Type 0} (m : Meaning F) (h : History) (places old : List (Sums
 filled m h places old i e done rest =
     sym (take-append-drop i places)
     ∙ ap₂ _++_ (done ∙ take-all i (all-sums m h) (omega (arith, length-map (lines-of h) (λ (l : Line). sums-of m h (l .number .value))))) (rest ∙ ap (λ (j : ℕ). drop j old) e)
+
+-- what a question answers is what stands
+pub answer-stands : (h : History) (n : ℕ) (l : Line) → line-of h n ≡ Some l → standing h n ≡ Some (l .part)
+answer-stands h n l e = at (standing h n) e
+  where
+    at : (p : Option Part) → mapped (λ q. line n q (built-in h n)) p ≡ Some l → p ≡ Some (l .part)
+    at None f = absurd (let z : _≡_ {A = ℕ} 0 1 = cc in omega arith)
+    at (Some q) f = let same : line n q (built-in h n) ≡ l = cc in ap (λ (x : Line). Some (x .part)) same
+
+-- the items beneath a line, from those beneath its lines
+pub items-one : (h : History) → Lawful h → (n : ℕ) (t : ItemType) → standing h n ≡ Some (Item t) → length (items (tree-of h n)) ≡ 1
+items-one h l n t e = ap (λ (x : Tree). length (items x)) (tree-item h l n t e)
+
+pub items-both : (h : History) → Lawful h → (n : ℕ) (k : Kind) (a b : PartNumber) → standing h n ≡ Some (Block k a b) → length (items (tree-of h n)) ≡ length (items (tree-of h (a .value))) + length (items (tree-of h (b .value)))
+items-both h l n k a b e = ap (λ (x : Tree). length (items x)) (tree-block h l n k a b e) ∙ length-append (items (tree-of h (a .value))) (items (tree-of h (b .value)))

@@ -1,4 +1,5 @@
 pub mod bench;
+pub mod items;
 mod joining;
 mod lines;
 

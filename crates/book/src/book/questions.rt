@@ -37,7 +37,8 @@ impl Book {
     pub fn next_number(&self) -> u32
         ensures { λ r. ⌜ ((h : History) → Keeps h (now (self .entry)) → r ≡ suc (given h)) ⌝ }
     {
-        self.last + 1
+        let last = self.last_number();
+        last + 1
     }
 
     // The part number that a refusal of the change is about: of a joining the first of the two that

@@ -32,10 +32,7 @@ impl Book {
     pub fn restore(&mut self, snapshot: &Snapshot)
         ensures { λ _. ⌜ Shows (now (snapshot .entry)) (now (self .exit)) ⌝ }
     {
-        self.table.lines.clear();
-        let _ = self.table
-            .lines
-            .extend_from_slice(&snapshot.lines[0..snapshot.count]);
+        self.table.replace(&snapshot.lines, snapshot.count);
         self.last = snapshot.last;
     }
 }

@@ -1,0 +1,4 @@
+pub mod Polynomials
+pub mod Signature
+pub mod Steps
+pub mod Counted
