@@ -1,0 +1,4 @@
+pub mod Rounding
+pub mod Enclosing
+pub mod Places
+pub mod Answered

@@ -1,0 +1,3 @@
+pub mod LowHigh
+pub mod Ruled
+pub mod Held
