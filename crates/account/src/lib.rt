@@ -1,8 +1,13 @@
 pub mod calls;
 
+#[cfg(test)]
+mod tests;
+
 ghost use mathlib.Core.Path.{_≡_};
 ghost use Rattle.account.specs.Runs.{Whole-runs, Accounts};
+ghost use Rattle.account.specs.Tallies.{meanings};
 use book::book::Book;
+use tally::Tally;
 
 // How the numbers of a book were used.
 #[derive(Clone, Copy, PartialEq, Eq, Debug)]
@@ -14,9 +19,10 @@ pub struct Numbers {
 
 // How many numbers a book has given, how many lines stand, and how many withdrawals were made. The
 // book does not count its withdrawals: they are what is left, since every run of calls keeps the law
-// that numbers given are lines standing and withdrawals made.
-pub fn account(book: &Book) -> Numbers
-    ensures runs { λ _. ⌜ Whole-runs ⌝ }
+// that numbers given are lines standing and withdrawals made. T is any tally under which the book was
+// surveyed on the way.
+pub fn account<T: Tally>(book: &Book) -> Numbers
+    ensures runs { λ _. ⌜ Whole-runs (meanings (T·Tally .meaning)) ⌝ }
     ensures here { λ r. ⌜ Accounts (now (book .entry)) (r .given) (r .standing) (r .withdrawn) ⌝ }
 {
     let given = book.last_number();

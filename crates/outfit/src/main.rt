@@ -1,6 +1,6 @@
 use book::book::Book;
 use rules::part_number::PartNumber;
-use sheet::check::UncheckedSheet;
+use sheet::entering::enter;
 use sheet::fault::Fault;
 use std::error::AnyError;
 use std::io;
@@ -26,12 +26,6 @@ fn main(rt: LibcRuntime) -> Result<(), AnyError> {
         Err(fault) => print_fault(&rt, &fault)?,
     }
     Ok(())
-}
-
-// Checks the text as a sheet, and applies it to the book.
-fn enter(text: &[u8], book: &mut Book) -> Result<u32, Fault> {
-    let checked = UncheckedSheet::new(text).check()?;
-    checked.apply(book)
 }
 
 fn print_fault(rt: &impl Print, fault: &Fault) -> io::Result<()> {

@@ -21,7 +21,7 @@ use Rattle.sheet.specs.declared.fault.Fault.{Fault}
 use Rattle.sheet.specs.Texts.{Line}
 use Rattle.sheet.specs.Readings.{change-of}
 use Rattle.sheet.specs.Faults.{fault-of}
-use Rattle.sheet.specs.Checks.{Checked}
+use Rattle.sheet.specs.Checks.{Checked, check-of}
 
 -- the fault that a refusal of the change d has at a line, after the history h
 abbrev pub line-fault : History → Line → Change → Refusal → Fault
@@ -85,3 +85,11 @@ Takes-line l b r b′ = (h : History) → Keeps h b
 abbrev pub Takes-lines : List Line → Book → Result (Unit {0}) Fault → Book → Type 0
 Takes-lines ls b r b′ = (h : History) → Keeps h b
     → In-turn h ls r × Cases r (λ _. Keeps (onto (changes-of ls) h) b′) (λ _. Unit {0})
+
+-- a text that is handed in as a sheet: refused by its check, or applied
+abbrev pub Enters : List ℕ → Book → Result ℕ Fault → Book → Type 0
+Enters text b r b′ = Cases (check-of text) (λ s. Applies s b r b′) (λ f. (r ≡ Err f) × (b′ ≡ b))
+
+-- the answer to it, after h
+abbrev pub Enter-ruled : History → List ℕ → Result ℕ Fault → Type 0
+Enter-ruled h text r = Cases (check-of text) (λ s. Sheet-ruled h s r) (λ f. r ≡ Err f)

@@ -1,5 +1,6 @@
 mod bytes;
 pub mod check;
+pub mod entering;
 pub mod fault;
 pub mod laws;
 mod lines;
