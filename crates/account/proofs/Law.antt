@@ -183,11 +183,11 @@ pub whole-runs : {I : Type 0} {F : I → Type 0} (meaning : (i : I) → Meaning 
 whole-runs meaning = record {
   ruled = λ later c before b run. let m = moment meaning later (c ∷ before) b run in newest-ruled meaning c before (m .0) (m .1) .1;
   balanced = λ cs b run q is.
-    let k = run-keeps meaning cs b run in
-    let h = history cs in
-    omega (arith, balance h (k .lawful), answered-standing h q (λ n. is n h k) (given h) (omega arith));
+      let k = run-keeps meaning cs b run in
+      let h = history cs in
+      omega (arith, balance h (k .lawful), answered-standing h q (λ n. is n h k) (given h) (omega arith));
   gone = λ later c before b run n out names.
-    let m = moment meaning later (c ∷ before) b run in
-    let k = newest-ruled meaning c before (m .0) (m .1) in
-    out-refused meaning c n (history before) (taken-out (history before) n (k .0) out) names (k .1);
+      let m = moment meaning later (c ∷ before) b run in
+      let k = newest-ruled meaning c before (m .0) (m .1) in
+      out-refused meaning c n (history before) (taken-out (history before) n (k .0) out) names (k .1);
 }

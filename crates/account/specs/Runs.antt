@@ -29,14 +29,14 @@ Run meaning (c ∷ cs) b′ = (b : Book) × Run meaning cs b × Step meaning c b
 pub record Whole-runs {I : Type 0} {F : I → Type 0} (meaning : (i : I) → Meaning (F i)) : Type 0 where
   -- each call was accepted, answered or refused as the rules say of the accepted calls before it alone
   pub ruled : (later : List (Call I F)) (c : Call I F) (before : List (Call I F)) (b : Book)
-    → Run meaning (later ++ c ∷ before) b → Ruled meaning (history before) c
+      → Run meaning (later ++ c ∷ before) b → Ruled meaning (history before) c
   -- numbers given equal lines standing, whose numbers a question then answers, plus withdrawals made
   pub balanced : (cs : List (Call I F)) (b : Book) → Run meaning cs b
-    → (q : ℕ → Result Line Refusal) → ((n : ℕ) → Asks n b (q n))
-    → given (history cs) ≡ answered q (given (history cs)) + withdrawals (history cs)
+      → (q : ℕ → Result Line Refusal) → ((n : ℕ) → Asks n b (q n))
+      → given (history cs) ≡ answered q (given (history cs)) + withdrawals (history cs)
   -- a number once withdrawn is refused by every later call, and every later sheet, that names it
   pub gone : (later : List (Call I F)) (c : Call I F) (before : List (Call I F)) (b : Book)
-    → Run meaning (later ++ c ∷ before) b → (n : ℕ) → Taken-out n (history before) → Names n c → Is-refused c
+      → Run meaning (later ++ c ∷ before) b → (n : ℕ) → Taken-out n (history before) → Names n c → Is-refused c
 
 -- whatever was called on the book before, the call goes on the run
 abbrev pub Goes-on : {I : Type 0} {F : I → Type 0} → ((i : I) → Meaning (F i)) → Call I F → Book → Book → Type 0

@@ -1,5 +1,4 @@
 pub mod calls;
-
 #[cfg(test)]
 mod tests;
 

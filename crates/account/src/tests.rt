@@ -65,7 +65,10 @@ fn cheapest_loss(rt: LibcRuntime) -> Result<(), Fail> {
     };
     let mut places = [nothing; 5];
     let mut bench = Bench::new(&mut places);
-    check_eq(survey(&book, PartNumber::new(5), &prices, &mut bench), Ok(4))?;
+    check_eq(
+        survey(&book, PartNumber::new(5), &prices, &mut bench),
+        Ok(4),
+    )?;
     check_eq(places[4].failing.get(), 65)
 }
 
