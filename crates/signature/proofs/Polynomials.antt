@@ -2,35 +2,27 @@
 use mathlib.Core.Path.{_≡_, refl, sym, ap, ap₂, fun-ext, subst, _∙_}
 use mathlib.Core.Bool.{false}
 use Prim.Native.Nat.{ℕ, zero, suc, _+_, _-_, _*_}
-use native.Mathlib.Nat.{add-comm, add-assoc, add-zero, mul-comm, mul-assoc, mul-one, mul-add, mul-zero, suc-sub-suc, sub-zero}
+use native.Mathlib.Nat.{suc-sub-suc, sub-zero}
 use native.Mathlib.Omega.{arith}
 use lib.Dec.{eqb}
 use Rattle.std.proofs.shelf.Tests.{ne-eqb}
 use Rattle.rules.specs.declared.item_type.ItemType.{ItemType}
 use Rattle.sums.specs.Semiring.{Meaning, Semiring}
+use Rattle.sums.proofs.Numbers.{numbers, numbers-semiring}
 use Rattle.signature.specs.Polynomials.{Polynomial, sum-to, one-at, variable, sum-of, product-of, polynomials}
 use Rattle.signature.proofs.Series.{constant, convolution, series, series-semiring}
 
-abbrev numbers : Meaning ℕ
-numbers = record { none = 0; unit = 1; plus = _+_; times = _*_; working = λ t. 1; failed = λ t. 1 }
+abbrev counting : Meaning ℕ
+counting = numbers (λ t. 1) (λ t. 1)
 
-numbers-semiring : Semiring numbers
-numbers-semiring = record {
-  plus-comm = add-comm;
-  plus-assoc = add-assoc;
-  plus-none = add-zero;
-  times-comm = mul-comm;
-  times-assoc = mul-assoc;
-  times-unit = mul-one;
-  times-plus = mul-add;
-  times-none = mul-zero;
-}
+counting-semiring : Semiring counting
+counting-semiring = numbers-semiring (λ t. 1) (λ t. 1)
 
 abbrev ones : {F : Type 0} → Meaning F → ItemType → ℕ → F
 ones m t = constant m (m .unit)
 
 abbrev one-variable : Meaning (ℕ → ℕ)
-one-variable = series numbers (ones numbers) (ones numbers)
+one-variable = series counting (ones counting) (ones counting)
 
 abbrev two-variables : Meaning (ℕ → ℕ → ℕ)
 two-variables = series one-variable (ones one-variable) (ones one-variable)
@@ -39,7 +31,7 @@ abbrev three-variables : Meaning Polynomial
 three-variables = series two-variables variable (λ t. one-at 0 0 0)
 
 one-semiring : Semiring one-variable
-one-semiring = series-semiring numbers numbers-semiring _ _
+one-semiring = series-semiring counting counting-semiring _ _
 
 two-semiring : Semiring two-variables
 two-semiring = series-semiring one-variable one-semiring _ _
@@ -64,7 +56,7 @@ module _ {F : Type 0} (m : Meaning F) (laws : Semiring m) where
       (convolution-terms (λ i. f (suc i)) g n ∙ ap (sum-by n) (fun-ext (λ i. ap (λ k. m .times (f (suc i)) (g k)) (sym (suc-sub-suc n i)))))
       ∙ sym (sum-front n (λ i. m .times (f i) (g (suc n - i))))
 
-sum-of-numbers : (n : ℕ) (f : ℕ → ℕ) → sum-by numbers numbers-semiring n f ≡ sum-to n f
+sum-of-numbers : (n : ℕ) (f : ℕ → ℕ) → sum-by counting counting-semiring n f ≡ sum-to n f
 sum-of-numbers zero f = refl
 sum-of-numbers (suc n) f = ap (λ x. x + f (suc n)) (sum-of-numbers n f)
 
@@ -82,7 +74,7 @@ product-terms f g a b c =
     ∙ ap (sum-to a) (fun-ext (λ i.
     ap (λ h. h c) (convolution-terms one-variable one-semiring (f i) (g (a - i)) b) ∙ sum-in-one b _ c
     ∙ ap (sum-to b) (fun-ext (λ j.
-    convolution-terms numbers numbers-semiring (f i j) (g (a - i) (b - j)) c ∙ sum-of-numbers c _))))
+    convolution-terms counting counting-semiring (f i j) (g (a - i) (b - j)) c ∙ sum-of-numbers c _))))
 
 apart : (n : ℕ) → eqb 0 (suc n) ≡ false
 apart n = ne-eqb 0 (suc n) (λ e. omega arith)

@@ -7,3 +7,4 @@ pub mod Order
 pub mod Rising
 pub mod Forest
 pub mod Places
+pub mod Numbers

@@ -3,7 +3,7 @@ use mathlib.Core.Path.{_≡_, refl, sym, ap, ap₂, subst, _∙_}
 use mathlib.Core.Bool.{true}
 use mathlib.Core.List.{List·Memᴰ·head, Memᴰ·append-left, Memᴰ·append-right}
 use Prim.Native.Nat.{ℕ, suc, _+_, _-_, _*_, _^_, _≤_, _<_}
-use native.Mathlib.Nat.{add-comm, add-assoc, add-zero, mul-comm, mul-assoc, mul-one, mul-add, mul-zero, pow-succ'}
+use native.Mathlib.Nat.{pow-succ'}
 use native.Mathlib.Omega.{arith}
 use lib.Dec.{lit<}
 use lib.Pow.{pow-add}
@@ -23,20 +23,12 @@ use Rattle.sums.specs.Members.{_∈_, Once}
 use Rattle.sums.specs.Blocks.{block-working, block-failing}
 use Rattle.sums.proofs.Blocks.{block-sums-stand}
 use Rattle.sums.proofs.Forest.{trees-stand}
+use Rattle.sums.proofs.Numbers.{numbers-semiring}
 use Rattle.survival.specs.LowHigh.{S, block-low, block-high, low, high, item-share, by-shares, Encloses}
 use Rattle.survival.proofs.Rounding.{Bounded, bounded-series, bounded-parallel, moved}
 
 whole-numbers : (share : ItemType → ℕ) → Semiring (by-shares share)
-whole-numbers share = record {
-  plus-comm = add-comm;
-  plus-assoc = add-assoc;
-  plus-none = add-zero;
-  times-comm = mul-comm;
-  times-assoc = mul-assoc;
-  times-unit = mul-one;
-  times-plus = mul-add;
-  times-none = mul-zero;
-}
+whole-numbers share = numbers-semiring share (λ t. S - share t)
 
 -- how many items the tree has besides one
 others : Tree → ℕ
