@@ -1,3 +1,5 @@
+#![tactic(auto)]
+
 ghost use Rattle.agreement.specs.Agreement.{AllWaysAgree};
 
 // After every lawful history the survey's way of reckoning a standing line under the signature, line

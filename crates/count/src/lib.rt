@@ -1,3 +1,5 @@
+#![tactic(auto)]
+
 mod binomials;
 mod by_type;
 pub mod laws;

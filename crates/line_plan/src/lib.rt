@@ -1,3 +1,5 @@
+#![tactic(auto)]
+
 mod beneath;
 mod item_list;
 #[cfg(test)]

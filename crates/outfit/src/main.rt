@@ -1,3 +1,5 @@
+#![tactic(auto)]
+
 use book::book::Book;
 use rules::part_number::PartNumber;
 use sheet::entering::enter;

@@ -1,3 +1,5 @@
+#![tactic(auto)]
+
 pub mod lockout;
 pub mod mirror;
 pub mod path_list;

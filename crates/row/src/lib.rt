@@ -1,3 +1,5 @@
+#![tactic(auto)]
+
 mod one_type_line;
 mod only_type;
 #[cfg(test)]

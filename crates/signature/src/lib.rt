@@ -1,3 +1,5 @@
+#![tactic(auto)]
+
 mod padded;
 mod product;
 mod sum;

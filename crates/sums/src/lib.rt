@@ -1,3 +1,5 @@
+#![tactic(auto)]
+
 ghost use Rattle.std.specs.Prelude.{ℕ, List};
 ghost use Rattle.sums.specs.Blocks.{BlockSumsStand};
 ghost use Rattle.sums.specs.Forest.{TreesStand};

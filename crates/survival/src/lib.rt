@@ -1,3 +1,5 @@
+#![tactic(auto)]
+
 mod bounds;
 pub mod fixed_point;
 mod fractions;

@@ -28,6 +28,8 @@
 // A refusal is `refused R`. A bench and a table hold junk before the call, and are shown after it,
 // also after a refusal; what still holds its junk is shown as `junk`. A table is shown by its cells
 // that are not 0, as ABC:VALUE, or as 0 if it has none. A line that is no command ends the program.
+#![tactic(auto)]
+
 mod answers;
 mod command;
 mod figures;

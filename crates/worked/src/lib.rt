@@ -1,3 +1,5 @@
+#![tactic(auto)]
+
 ghost use Rattle.worked.specs.Worked.{WorkedExamples};
 
 // The worked examples of the rules hold by the definitions.
