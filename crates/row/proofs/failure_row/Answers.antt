@@ -11,7 +11,7 @@ pub failure-row-requires : goal.failure-row-requires
 failure-row-requires c =
     let n = c.args.number.value in
     let book = c.args.book.now in
-    let x : OneTypeLine = record { sum = c.in-ok-sum.sum; item_type = c.in-ok-item-type.type_of_part; items = c.in-ok-item-type.items } in
+    let x : OneTypeLine = record { sum = c.in-ok-sum.sum; item_type = c.in-ok-item-type.item_type; items = c.in-ok-item-type.items } in
     let at : (h : History) → Keeps h book → Orderly x = λ h k.
     let u = c.in-ok-item-type.ensures h k in
     orderly h k.lawful n (named_stands (standing h n) u.0.1.0) x u.1.0 u.1.1 (c.in-ok-sum.ensures.answer.answer h k).1 in
@@ -29,7 +29,7 @@ returns c = record {
         let u = c.in-ok-item-type.ensures h k in
         let s = c.in-ok-sum.ensures.answer.answer h k in (
           (u.0.0, (u.0.1.0, (u.0.1.1.0, (s.0.1.1.0, tt)))),
-          (c.in-ok-item-type.type_of_part, row_filled h k.lawful n (named_stands (standing h n) u.0.1.0) _ u.1.0 u.1.1 s.1 _ c.failure-row.ensures.long c.failure-row.ensures.each),
+          (c.in-ok-item-type.item_type, row_filled h k.lawful n (named_stands (standing h n) u.0.1.0) _ u.1.0 u.1.1 s.1 _ c.failure-row.ensures.long c.failure-row.ensures.each),
         );
     left = c.in-ok-sum.ensures.answer.left;
   };

@@ -10,14 +10,14 @@ use Rattle.count.proofs.by_type.places_of_type.Goals.{then-is-type, else-is-type
 pub loop-place-init : goal.loop-place-init
 loop-place-init g c i =
     ap (λ m. bit m i) c.from-mask-found.ensures ∙ bit_none i
-    ∙ sym (and_left (ltb i 0) (is_of_type (g.P.Plan.meaning c.args.plan.now) c.args.type_of_part i) (le-ltb i 0 (omega arith)))
+    ∙ sym (and_left (ltb i 0) (is_of_type (g.P.Plan.meaning c.args.plan.now) c.args.item_type i) (le-ltb i 0 (omega arith)))
 
 pub loop-place-preserved : goal.loop-place-preserved
 loop-place-preserved g c =
     let plan = g.P.Plan.meaning c.args.plan.now in
-    let of = is_of_type plan c.args.type_of_part in
+    let of = is_of_type plan c.args.item_type in
     let place = c.loop-place.place in
-    let here : c.is_type.result ≡ of place = c.is_type.ensures ∙ ap (is_type c.args.type_of_part) c.type_of_part.ensures in
+    let here : c.is_type.result ≡ of place = c.is_type.ensures ∙ ap (is_type c.args.item_type) c.item_type.ensures in
     elim c.if-is-type.branch [
       | then-is-type w ↦
           λ i. ap (λ s. members s i) w.found-is ∙ ap (λ s. s i) w.with-found.ensures
@@ -28,6 +28,6 @@ loop-place-preserved g c =
 pub returns : goal.returns
 returns g c =
     let plan = c.args.plan.now in
-    let type = c.args.type_of_part in
+    let type = c.args.item_type in
     gathered_all (is_of_type (g.P.Plan.meaning plan) type) (members c.loop-place.found) c.loop-place.place c.loop-place.invariant (omega arith)
     (λ i high. ap (is_type type) ((g.met.P.Plan.lawful plan).above i high))

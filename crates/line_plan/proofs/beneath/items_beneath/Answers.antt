@@ -30,7 +30,7 @@ add-requires c = kept_bound c.args.book.now _ _ (λ h k.
       arith,
       ap length (c.loop-line.invariant h k),
       length-append (listed c.loop-line.items) (picked is (drop i ls)),
-      ap length (picked_one is ls i c.loop-line-test.true c.in-Item.type_of_part on c.in-Item.is),
+      ap length (picked_one is ls i c.loop-line-test.true c.in-Item.item_type on c.in-Item.is),
       few-picked h k.lawful n (c.requires h k),
     ))
 
@@ -49,7 +49,7 @@ loop-line-preserved c h k =
           ap (λ (l : ItemList). listed l ++ rest) w.items-is
           ∙ ap (λ (js : List TypedItem). js ++ rest) w.add.ensures
           ∙ append_assoc old _ rest
-          ∙ ap (λ (js : List TypedItem). old ++ js) (sym (picked_one is ls i lt w.in-Item.type_of_part on w.in-Item.is))
+          ∙ ap (λ (js : List TypedItem). old ++ js) (sym (picked_one is ls i lt w.in-Item.item_type on w.in-Item.is))
           ∙ c.loop-line.invariant h k
       | in-Item+else-lies-beneath w ↦
           let off = in_tree h k.lawful n _ (c.requires h k) _ false w.if-lies-beneath.false (w.lies-beneath.ensures h k) in

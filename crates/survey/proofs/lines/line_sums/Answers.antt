@@ -28,7 +28,7 @@ at-y-requires g c = ∥∥₁_elim c.args.book.now.kept (λ p q. le_prop p q) (�
 pub returns-in-Item : goal.returns-in-Item
 returns-in-Item g c h k =
     ap₂ (λ u v. record { working = u; failing = v }) c.working.ensures c.failed.ensures
-    ∙ sym (sums_item (g.T.Tally.meaning c.args.tally.now) (g.met.T.Tally.lawful c.args.tally.now) h k.lawful _ c.in-Item.type_of_part (c.requires.here h k ∙ ap Some c.in-Item.is))
+    ∙ sym (sums_item (g.T.Tally.meaning c.args.tally.now) (g.met.T.Tally.lawful c.args.tally.now) h k.lawful _ c.in-Item.item_type (c.requires.here h k ∙ ap Some c.in-Item.is))
 
 pub returns-in-Block : goal.returns-in-Block
 returns-in-Block g c h k =

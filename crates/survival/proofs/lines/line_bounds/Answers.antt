@@ -13,7 +13,7 @@ held-at-y-requires c h k = (lines_stand h k.lawful _ _ _ _ (c.requires.here h k 
 
 pub returns-in-Item : goal.returns-in-Item
 returns-in-Item c h k =
-    bounds_item (fraction_of c.args.fractions) h k.lawful c.args.line.number.value c.in-Item.type_of_part c.exact.result (c.requires.here h k ∙ ap Some c.in-Item.is)
+    bounds_item (fraction_of c.args.fractions) h k.lawful c.args.line.number.value c.in-Item.item_type c.exact.result (c.requires.here h k ∙ ap Some c.in-Item.is)
     (ap (λ (x : FixedPoint). x.units) c.exact.ensures.0 ∙ c.of.ensures)
     (ap (λ (x : FixedPoint). x.units) c.exact.ensures.1 ∙ c.of.ensures)
 

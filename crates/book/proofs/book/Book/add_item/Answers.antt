@@ -20,7 +20,7 @@ invariant-of-self c =
       (
         ∥∥₁_map b.kept (λ k. (
           Issue c.args.asked ∷ k.0,
-          issue_step k.0 (vec_items b.table.lines) b.last k.1 c.args.asked c.new-number.result.value c.args.type_of_part (vec_items c.add.new.self.lines)
+          issue_step k.0 (vec_items b.table.lines) b.last k.1 c.args.asked c.new-number.result.value c.args.item_type (vec_items c.add.new.self.lines)
               (c.requires.allowed k.0 k.1) c.requires.known c.new-number.ensures c.add.ensures.items,
         )),
         tt,
@@ -30,7 +30,7 @@ invariant-of-self c =
 pub returns : goal.returns
 returns c h k =
     let b = c.args.self.now in (
-      issue_step h (vec_items b.table.lines) b.last k c.args.asked c.new-number.result.value c.args.type_of_part (vec_items c.add.new.self.lines)
+      issue_step h (vec_items b.table.lines) b.last k c.args.asked c.new-number.result.value c.args.item_type (vec_items c.add.new.self.lines)
           (c.requires.allowed h k) c.requires.known c.new-number.ensures c.add.ensures.items,
       omega (arith, k.last),
     )

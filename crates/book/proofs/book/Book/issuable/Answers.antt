@@ -16,7 +16,7 @@ returns-then-of-type-ge-MOST-OF-TYPE c h k =
       some_not_none _ _ known,
       inr (
         (λ w. omega (arith, items_are h xs b.last k)),
-        inl (omega (arith, of_type_are h xs b.last k c.args.type_of_part c.in-Some.known known), refl),
+        inl (omega (arith, of_type_are h xs b.last k c.args.item_type c.in-Some.known known), refl),
       ),
     )
 
@@ -30,7 +30,7 @@ returns-then-self-ge-LAST-NUMBER c h k =
       inr (
         (λ w. omega (arith, items_are h xs b.last k)),
         inr (
-          (λ w. omega (arith, of_type_are h xs b.last k c.args.type_of_part c.in-Some.known known)),
+          (λ w. omega (arith, of_type_are h xs b.last k c.args.item_type c.in-Some.known known)),
           inl (omega (arith, k.last), refl),
         ),
       ),
@@ -40,4 +40,4 @@ pub returns : goal.returns
 returns c =
     let b = c.args.self.now in
     let known = sym c.in-Some.ensures in
-    (known, λ h k. issue_allowed h (vec_items b.table.lines) b.last k c.args.type_of_part c.in-Some.known known (omega arith) (omega arith) (omega arith))
+    (known, λ h k. issue_allowed h (vec_items b.table.lines) b.last k c.args.item_type c.in-Some.known known (omega arith) (omega arith) (omega arith))

@@ -15,9 +15,9 @@ all_more c =
     ]
 
 -- one more line among the items of the type
-of_type_more : (c : goal.Joined-is-item-of) → (c.if-is-item-of.is_of_type ≤ c.loop-line.line-index + 1) × (c.if-is-item-of.is_of_type ≡ count_by (item_line_of (type_number c.args.type_of_part)) (take (c.loop-line.line-index + 1) c.as-slice-lines.result.now))
+of_type_more : (c : goal.Joined-is-item-of) → (c.if-is-item-of.of_type ≤ c.loop-line.line-index + 1) × (c.if-is-item-of.of_type ≡ count_by (item_line_of (type_number c.args.item_type)) (take (c.loop-line.line-index + 1) c.as-slice-lines.result.now))
 of_type_more c =
-    let p = item_line_of (type_number c.args.type_of_part) in
+    let p = item_line_of (type_number c.args.item_type) in
     elim c.if-is-item-of.branch [
       | then-is-item-of w ↦ (omega (arith, w.of-type-is), omega (arith, w.of-type-is, count_by_more_yes p c.as-slice-lines.result.now c.loop-line.line-index _ c.loop-line-test.true (sym c.is_item_of.ensures ∙ w.if-is-item-of.true)))
       | else-is-item-of w ↦ (omega (arith, w.of-type-is), omega (arith, w.of-type-is, count_by_more_no p c.as-slice-lines.result.now c.loop-line.line-index _ c.loop-line-test.true (sym c.is_item_of.ensures ∙ w.if-is-item-of.false)))
@@ -31,5 +31,5 @@ returns c =
     let whole = take_all _ _ c.loop-line-test.false ∙ c.as-slice-lines.ensures.value in
     record {
       all = c.loop-line.invariant.2 ∙ ap (count_by item_line) whole;
-      is_of_type = c.loop-line.invariant.3 ∙ ap (count_by (item_line_of (type_number c.args.type_of_part))) whole;
+      is_of_type = c.loop-line.invariant.3 ∙ ap (count_by (item_line_of (type_number c.args.item_type))) whole;
     }
