@@ -4,10 +4,10 @@ use Rattle.signature.specs.Polynomials.{variable}
 use Rattle.signature.proofs.SignatureTally.working.Goals as goal
 
 pub returns-in-One : goal.returns-in-One
-returns-in-One c = c.one-at.ensures ∙ ap (λ t. table_of (variable t)) (sym c.in-One.is)
+returns-in-One c = c.one_at.ensures ∙ ap (λ t. table_of (variable t)) (sym c.in-One.is)
 
 pub returns-in-Two : goal.returns-in-Two
-returns-in-Two c = c.one-at-in-Two.ensures ∙ ap (λ t. table_of (variable t)) (sym c.in-Two.is)
+returns-in-Two c = c.one_at-in-Two.ensures ∙ ap (λ t. table_of (variable t)) (sym c.in-Two.is)
 
 pub returns-in-Three : goal.returns-in-Three
-returns-in-Three c = c.one-at-in-Three.ensures ∙ ap (λ t. table_of (variable t)) (sym c.in-Three.is)
+returns-in-Three c = c.one_at-in-Three.ensures ∙ ap (λ t. table_of (variable t)) (sym c.in-Three.is)

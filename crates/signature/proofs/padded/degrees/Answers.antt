@@ -17,14 +17,14 @@ pub loop-row-preserved : goal.loop-row-preserved
 loop-row-preserved c =
     let row = c.loop-row.row in
     let inv = c.loop-row.invariant in
-    elim c.if-row-nonzero.branch [
+    elim c.if-row_nonzero.branch [
       | then-row-nonzero w ↦
-          let b = w.b-end-is ∙ w.max-b-end.ensures in
-          let c = w.c-end-is ∙ w.max-c-end.ensures in
+          let b = w.b-end-is ∙ w.max-b_end.ensures in
+          let c = w.c-end-is ∙ w.max-c_end.ensures in
           (λ p h past. inv.0 p (omega arith) (omega arith), λ p h past. inv.1 p (omega arith) (omega arith))
       | else-row-nonzero w ↦
-          let zeros = w.if-row-nonzero.ensures.zero refl in (
-            zero_row c.args.y.now row (λ p. c.if-row-nonzero.b-end ≤ p / 8 % 8) (λ p h past. inv.0 p h (omega arith)) zeros,
-            zero_row c.args.y.now row (λ p. c.if-row-nonzero.c-end ≤ p / 64) (λ p h past. inv.1 p h (omega arith)) zeros,
+          let zeros = w.if-row_nonzero.ensures.zero refl in (
+            zero_row c.args.y.now row (λ p. c.if-row_nonzero.b_end ≤ p / 8 % 8) (λ p h past. inv.0 p h (omega arith)) zeros,
+            zero_row c.args.y.now row (λ p. c.if-row_nonzero.c_end ≤ p / 64) (λ p h past. inv.1 p h (omega arith)) zeros,
           )
     ]

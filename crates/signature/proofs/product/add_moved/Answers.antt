@@ -14,25 +14,25 @@ loop-b-init c = adds_first c.loop-c.out _ c.loop-c.invariant.long
 pub loop-b-preserved : goal.loop-b-preserved
 loop-b-preserved c =
     adds_more c.loop-b.b (moved_row c.args.factor.now.rows c.args.v c.args.i c.args.j c.args.k c.loop-c.c)
-    c.loop-c.out c.loop-b.out c.add-row.new.out c.loop-b.invariant c.add-row.ensures
+    c.loop-c.out c.loop-b.out c.add_row.new.out c.loop-b.invariant c.add_row.ensures
 
 pub loop-c-preserved : goal.loop-c-preserved
 loop-c-preserved c =
     let row : ℕ → ℕ → Polynomial = moved_row c.args.factor.now.rows c.args.v c.args.i c.args.j c.args.k in
-    let end : c.loop-b.b ≡ c.min-b-count.result = omega arith in
-    adds_more c.loop-c.c (λ n. sum_terms c.min-b-count.result (row n)) c.args.out.now c.loop-c.out c.loop-b.out c.loop-c.invariant
+    let end : c.loop-b.b ≡ c.min-b_count.result = omega arith in
+    adds_more c.loop-c.c (λ n. sum_terms c.min-b_count.result (row n)) c.args.out.now c.loop-c.out c.loop-b.out c.loop-c.invariant
     (subst (λ n. Adds c.loop-c.out (sum_terms n (row c.loop-c.c)) c.loop-b.out) end c.loop-b.invariant)
 
 pub returns : goal.returns
 returns c =
     let factor = c.args.factor.now in
     let row : ℕ → ℕ → Polynomial = moved_row factor.rows c.args.v c.args.i c.args.j c.args.k in
-    let c-end : c.loop-c.c ≡ c.min-c-count.result = omega arith in
+    let c_end : c.loop-c.c ≡ c.min-c_count.result = omega arith in
     adds_as c.args.out.now c.loop-c.out
     (sum_terms (min factor.c_end (8 - c.args.k)) (λ n. sum_terms (min factor.b_end (8 - c.args.j)) (row n)))
     (λ a b d. c.args.v * moved (unpadded factor.rows) c.args.i c.args.j c.args.k a b d)
-    (subst (λ m. Adds c.args.out.now (sum_terms (min factor.c_end (8 - c.args.k)) (λ n. sum_terms m (row n))) c.loop-c.out) c.min-b-count.ensures
-    (subst (λ m. Adds c.args.out.now (sum_terms m (λ n. sum_terms c.min-b-count.result (row n))) c.loop-c.out) (c-end ∙ c.min-c-count.ensures)
+    (subst (λ m. Adds c.args.out.now (sum_terms (min factor.c_end (8 - c.args.k)) (λ n. sum_terms m (row n))) c.loop-c.out) c.min-b_count.ensures
+    (subst (λ m. Adds c.args.out.now (sum_terms m (λ n. sum_terms c.min-b_count.result (row n))) c.loop-c.out) (c_end ∙ c.min-c_count.ensures)
     c.loop-c.invariant))
     (moved_sum factor.rows factor.b_end factor.c_end factor.padding factor.past_b factor.past_c
     c.args.v c.args.i c.args.j c.args.k (omega arith) (omega arith) (omega arith))

@@ -18,7 +18,7 @@ loop-i-preserved c =
     elim c.if-v-ne0.branch [
       | then-v-ne0 w ↦
           subst (λ zs. Adds c.args.out.now (sum_terms (i + 1) term) zs) (sym w.out-is)
-          (adds_more i term c.args.out.now c.loop-i.out w.add-moved.new.out c.loop-i.invariant w.add-moved.ensures)
+          (adds_more i term c.args.out.now c.loop-i.out w.add_moved.new.out c.loop-i.invariant w.add_moved.ensures)
       | else-v-ne0 w ↦
           subst (λ zs. Adds c.args.out.now (sum_terms (i + 1) term) zs) (sym w.out-is)
           (adds_more i term c.args.out.now c.loop-i.out c.loop-i.out c.loop-i.invariant

@@ -22,16 +22,16 @@ loop-j-preserved c =
     let k = c.loop-k.k in
     let factor : Polynomial = unpadded c.new-factor.result.rows in
     let row : ℕ → Polynomial = row_times (cell x) factor k in
-    elim c.if-row-nonzero.branch [
+    elim c.if-row_nonzero.branch [
       | then-row-nonzero w ↦
           subst (λ zs. Adds c.loop-k.out (sum_terms (j + 1) row) zs) (sym w.out-is)
-          (adds_more j row c.loop-k.out c.loop-j.out w.add-row-times.new.out c.loop-j.invariant w.add-row-times.ensures)
+          (adds_more j row c.loop-k.out c.loop-j.out w.add_row_times.new.out c.loop-j.invariant w.add_row_times.ensures)
       | else-row-nonzero w ↦
           subst (λ zs. Adds c.loop-k.out (sum_terms (j + 1) row) zs) (sym w.out-is)
           (adds_more j row c.loop-k.out c.loop-j.out c.loop-j.out c.loop-j.invariant
           (adds_none c.loop-j.out (row j) c.loop-j.invariant.long (λ a b d al bl dl. all_zero 8 _ (λ i il.
           let place : i + 8 * j + 64 * k ≡ 8 * j + 64 * k + i = omega arith in
-          ap (λ n. n * moved factor i j k a b d) (ap (λ p. get_or x p 0) place ∙ w.if-row-nonzero.ensures.zero refl i il)
+          ap (λ n. n * moved factor i j k a b d) (ap (λ p. get_or x p 0) place ∙ w.if-row_nonzero.ensures.zero refl i il)
           ∙ zero-mul (moved factor i j k a b d)))))
     ]
 

@@ -4,8 +4,8 @@ use Rattle.rules.specs.declared.change.Change.TheVariants.{Issue}
 use Rattle.book.proofs.Steps.{issue_step, issue_fits, kept_bound, few_numbers}
 use Rattle.book.proofs.book.Book.add_item.Goals as goal
 
-pub overflow-add-next : goal.overflow-add-next
-overflow-add-next c = omega (arith, few_numbers c.args.self.now)
+pub overflow_add-next : goal.overflow_add-next
+overflow_add-next c = omega (arith, few_numbers c.args.self.now)
 
 pub add-requires : goal.add-requires
 add-requires c =
@@ -13,8 +13,8 @@ add-requires c =
     let few = kept_bound b _ _ (λ h k. issue_fits h (vec_items b.table.lines) b.last k c.args.asked (c.requires.allowed h k)) in
     omega (arith, b.table.lines.ok.0)
 
-pub invariant-of-self : goal.invariant-of-self
-invariant-of-self c =
+pub invariant_of-self : goal.invariant_of-self
+invariant_of-self c =
     let b = c.args.self.now in (
       omega arith,
       (

@@ -3,7 +3,7 @@ use Rattle.rules.specs.declared.line.Line.{Line}
 use Rattle.book.specs.Kept.{Kept}
 use Rattle.book.proofs.book.Book.restore.Goals as goal
 
-pub invariant-of-self : goal.invariant-of-self
-invariant-of-self c =
+pub invariant_of-self : goal.invariant_of-self
+invariant_of-self c =
     let s = c.args.snapshot.now in
     (c.replace.ensures.capacity, (subst (λ (xs : List Line). Kept xs s.last) (sym c.replace.ensures.items) s.kept, tt))

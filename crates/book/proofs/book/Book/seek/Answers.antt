@@ -2,10 +2,10 @@ use Rattle.std.proofs.Common.{vec_items, arith}
 use Rattle.book.proofs.Steps.{name_missing, name_there, line_is}
 use Rattle.book.proofs.book.Book.seek.Goals as goal
 
-pub returns-in-default : goal.returns-in-default
-returns-in-default c h k =
+pub returns-in_default : goal.returns-in_default
+returns-in_default c h k =
     let b = c.args.self.now in
-    name_missing h (vec_items b.table.lines) b.last k c.args.number.value (omega arith) (omega arith) c.in-default.ensures
+    name_missing h (vec_items b.table.lines) b.last k c.args.number.value (omega arith) (omega arith) c.in_default.ensures
 
 pub returns : goal.returns
 returns c =

@@ -7,8 +7,8 @@ use Rattle.book.specs.Kept.{Kept}
 use Rattle.book.proofs.Steps.{few_held}
 use Rattle.book.proofs.book.Book.snapshot.Goals as goal
 
-pub offset-bounds-lines-place : goal.offset-bounds-lines-place
-offset-bounds-lines-place c = omega (arith, few_held c.args.self.now, c.args.self.now.table.lines.ok.0)
+pub offset_bounds-lines-place : goal.offset_bounds-lines-place
+offset_bounds-lines-place c = omega (arith, few_held c.args.self.now, c.args.self.now.table.lines.ok.0)
 
 pub bounds-lines-place : goal.bounds-lines-place
 bounds-lines-place c = omega (arith, few_held c.args.self.now, c.args.self.now.table.lines.ok.0)
@@ -32,8 +32,8 @@ copied v n i ys len lo hi same =
     let e : n ≡ i = omega arith in
     sym (ap (λ (m : ℕ). take m ys) e ∙ same ∙ take_all i (vec_items v.table.lines) (omega (arith, v.table.lines.ok.0)))
 
-pub invariant-of-result : goal.invariant-of-result
-invariant-of-result c =
+pub invariant_of-result : goal.invariant_of-result
+invariant_of-result c =
     let v = c.args.self.now in
     let e = copied v c.len-count.result c.loop-place.place c.loop-place.lines c.len-count.ensures c.loop-place-test.false c.loop-place.auto.place-end c.loop-place.invariant.1 in
     (c.loop-place.invariant.0, (omega (arith, few_held v, v.table.lines.ok.0), (subst (λ (ys : List Line). Kept ys v.last) e v.kept, tt)))

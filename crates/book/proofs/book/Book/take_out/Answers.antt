@@ -5,32 +5,32 @@ use Rattle.rules.specs.declared.line.Line.{Line}
 use Rattle.book.proofs.Steps.{item_step, block_step}
 use Rattle.book.proofs.book.Book.take_out.Goals as goal
 
-pub invariant-of-self : goal.invariant-of-self
-invariant-of-self c =
+pub invariant_of-self : goal.invariant_of-self
+invariant_of-self c =
     let b = c.args.self.now in
-    let part = ap (λ (l : Line). l.part) (sym c.take-out-line.ensures.value) ∙ c.in-Block.is in (
+    let part = ap (λ (l : Line). l.part) (sym c.take_out-line.ensures.value) ∙ c.in-Block.is in (
       omega arith,
       (
         ∥∥₁_map b.kept (λ k. (
           Withdraw c.args.number ∷ k.0,
           block_step k.0 (vec_items b.table.lines) b.last k.1 c.args.number c.args.place _ c.in-Block.a c.in-Block.b
-              (vec_items c.take-out-line.new.self.lines) (vec_items c.release.new.self.lines) (vec_items c.release-in-Block.new.self.lines)
-              (c.requires.1 k.0 k.1) c.requires.0 part c.take-out-line.ensures.items c.release.ensures.items c.release-in-Block.ensures.items,
+              (vec_items c.take_out-line.new.self.lines) (vec_items c.release.new.self.lines) (vec_items c.release-in-Block.new.self.lines)
+              (c.requires.1 k.0 k.1) c.requires.0 part c.take_out-line.ensures.items c.release.ensures.items c.release-in-Block.ensures.items,
         )),
         tt,
       ),
     )
 
-pub invariant-of-self-in-default : goal.invariant-of-self-in-default
-invariant-of-self-in-default c =
+pub invariant_of-self-in_default : goal.invariant_of-self-in_default
+invariant_of-self-in_default c =
     let b = c.args.self.now in
-    let part = ap (λ (l : Line). l.part) (sym c.take-out-line.ensures.value) ∙ c.in-default.is in (
+    let part = ap (λ (l : Line). l.part) (sym c.take_out-line.ensures.value) ∙ c.in_default.is in (
       omega arith,
       (
         ∥∥₁_map b.kept (λ k. (
           Withdraw c.args.number ∷ k.0,
-          item_step k.0 (vec_items b.table.lines) b.last k.1 c.args.number c.args.place _ (vec_items c.take-out-line.new.self.lines)
-              (c.requires.1 k.0 k.1) c.requires.0 part c.take-out-line.ensures.items,
+          item_step k.0 (vec_items b.table.lines) b.last k.1 c.args.number c.args.place _ (vec_items c.take_out-line.new.self.lines)
+              (c.requires.1 k.0 k.1) c.requires.0 part c.take_out-line.ensures.items,
         )),
         tt,
       ),
@@ -39,18 +39,18 @@ invariant-of-self-in-default c =
 pub returns-in-Block : goal.returns-in-Block
 returns-in-Block c h k =
     let b = c.args.self.now in
-    let part = ap (λ (l : Line). l.part) (sym c.take-out-line.ensures.value) ∙ c.in-Block.is in (
+    let part = ap (λ (l : Line). l.part) (sym c.take_out-line.ensures.value) ∙ c.in-Block.is in (
       block_step h (vec_items b.table.lines) b.last k c.args.number c.args.place _ c.in-Block.a c.in-Block.b
-          (vec_items c.take-out-line.new.self.lines) (vec_items c.release.new.self.lines) (vec_items c.release-in-Block.new.self.lines)
-          (c.requires.1 h k) c.requires.0 part c.take-out-line.ensures.items c.release.ensures.items c.release-in-Block.ensures.items,
+          (vec_items c.take_out-line.new.self.lines) (vec_items c.release.new.self.lines) (vec_items c.release-in-Block.new.self.lines)
+          (c.requires.1 h k) c.requires.0 part c.take_out-line.ensures.items c.release.ensures.items c.release-in-Block.ensures.items,
       refl,
     )
 
-pub returns-in-default : goal.returns-in-default
-returns-in-default c h k =
+pub returns-in_default : goal.returns-in_default
+returns-in_default c h k =
     let b = c.args.self.now in
-    let part = ap (λ (l : Line). l.part) (sym c.take-out-line.ensures.value) ∙ c.in-default.is in (
-      item_step h (vec_items b.table.lines) b.last k c.args.number c.args.place _ (vec_items c.take-out-line.new.self.lines)
-          (c.requires.1 h k) c.requires.0 part c.take-out-line.ensures.items,
+    let part = ap (λ (l : Line). l.part) (sym c.take_out-line.ensures.value) ∙ c.in_default.is in (
+      item_step h (vec_items b.table.lines) b.last k c.args.number c.args.place _ (vec_items c.take_out-line.new.self.lines)
+          (c.requires.1 h k) c.requires.0 part c.take_out-line.ensures.items,
       refl,
     )

@@ -5,6 +5,6 @@ use Rattle.plan.specs.Paths.{each_path}
 use Rattle.plan.specs.PathsLemmas.{allowed_filled}
 use Rattle.plan.proofs.path_list.PathList.new.Goals as goal
 
-pub invariant-of-result : goal.invariant-of-result
-invariant-of-result c =
-    (search rules, (allowed_filled c.args.numbers (vec_items c.args.paths) (subst (λ ps. Allowed (each_path c.args.numbers ps)) c.deref.ensures.value c.in-ok-check-paths.ensures.0), tt))
+pub invariant_of-result : goal.invariant_of-result
+invariant_of-result c =
+    (search rules, (allowed_filled c.args.numbers (vec_items c.args.paths) (subst (λ ps. Allowed (each_path c.args.numbers ps)) c.deref.ensures.value c.in_ok-check_paths.ensures.0), tt))

@@ -6,7 +6,7 @@ use Rattle.plan.proofs.path_list.making.check_path.Goals as goal
 pub returns : goal.returns
 returns c =
     let path = c.args.path in
-    let some = c.is-empty.ensures.some c.if-is-empty.false in (
+    let some = c.is_empty.ensures.some c.if-is_empty.false in (
       (
         λ none. true≢false (sym some.1 ∙ none some.0),
         (

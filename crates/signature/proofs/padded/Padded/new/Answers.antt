@@ -14,18 +14,18 @@ zero_past y rows padding same q h zero = elim (cases_lt (q % 16) 8) [
       ap (λ n. get_or rows n 0) place ∙ same p (omega arith) ∙ zero
 ]
 
-pub invariant-of-result : goal.invariant-of-result
-invariant-of-result c =
+pub invariant_of-result : goal.invariant_of-result
+invariant_of-result c =
     let y = c.args.y.now in
-    let rows = c.padded-rows-rows.result in
-    let padding = c.padded-rows-rows.ensures.padding in
-    let zero = zero_past y rows padding c.padded-rows-rows.ensures.same in (
+    let rows = c.padded_rows-rows.result in
+    let padding = c.padded_rows-rows.ensures.padding in
+    let zero = zero_past y rows padding c.padded_rows-rows.ensures.same in (
       search rules,
       (
         padding,
         (
-          (λ q h past. zero q h (c.degrees-b-end.ensures.past-b (8 * (q / 16) + (q % 16 - 8)) (omega arith) (omega arith))),
-          ((λ q h past. zero q h (c.degrees-b-end.ensures.past-c (8 * (q / 16) + (q % 16 - 8)) (omega arith) (omega arith))), tt),
+          (λ q h past. zero q h (c.degrees-b_end.ensures.past_b (8 * (q / 16) + (q % 16 - 8)) (omega arith) (omega arith))),
+          ((λ q h past. zero q h (c.degrees-b_end.ensures.past_c (8 * (q / 16) + (q % 16 - 8)) (omega arith) (omega arith))), tt),
         ),
       ),
     )
@@ -34,4 +34,4 @@ pub returns : goal.returns
 returns c = λ a b e al bl el.
     let p : ℕ = a + 8 * b + 64 * e in
     let place : 16 * (b + 8 * e) + 8 + a ≡ 16 * (p / 8) + 8 + p % 8 = omega arith in
-    ap (λ n. get_or c.padded-rows-rows.result n 0) place ∙ c.padded-rows-rows.ensures.same p (omega arith)
+    ap (λ n. get_or c.padded_rows-rows.result n 0) place ∙ c.padded_rows-rows.ensures.same p (omega arith)
