@@ -1,7 +1,7 @@
 use Rattle.std.proofs.Common.{◌≡◌, ℕ, ◌+◌, ◌-◌, ◌*◌, ◌/◌, ◌%◌, ◌<◌, ◌≤◌, List, get_or, sym, refl, ap, ◌∙◌, inl, inr, arith}
 use Rattle.std.proofs.lemmas.Bool.{cases_lt}
 use Rattle.signature.proofs.padded.degrees.Goals as goal
-use Rattle.signature.proofs.padded.degrees.Goals.{then-row-nonzero, else-row-nonzero}
+use Rattle.signature.proofs.padded.degrees.Goals.{then-row_nonzero, else-row_nonzero}
 
 -- one row more, of zeros
 zero_row : (y : List ℕ) (row : ℕ) (Past : ℕ → Type 0) → ((p : ℕ) → p < 8 * row → Past p → get_or y p 0 ≡ 0)
@@ -18,11 +18,11 @@ loop-row-preserved c =
     let row = c.loop-row.row in
     let inv = c.loop-row.invariant in
     elim c.if-row_nonzero.branch [
-      | then-row-nonzero w ↦
-          let b = w.b-end-is ∙ w.max-b_end.ensures in
-          let c = w.c-end-is ∙ w.max-c_end.ensures in
+      | then-row_nonzero w ↦
+          let b = w.b_end-is ∙ w.max-b_end.ensures in
+          let c = w.c_end-is ∙ w.max-c_end.ensures in
           (λ p h past. inv.0 p (omega arith) (omega arith), λ p h past. inv.1 p (omega arith) (omega arith))
-      | else-row-nonzero w ↦
+      | else-row_nonzero w ↦
           let zeros = w.if-row_nonzero.ensures.zero refl in (
             zero_row c.args.y.now row (λ p. c.if-row_nonzero.b_end ≤ p / 8 % 8) (λ p h past. inv.0 p h (omega arith)) zeros,
             zero_row c.args.y.now row (λ p. c.if-row_nonzero.c_end ≤ p / 64) (λ p h past. inv.1 p h (omega arith)) zeros,

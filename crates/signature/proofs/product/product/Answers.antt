@@ -7,7 +7,7 @@ use Rattle.signature.proofs.Cells.{getD_zeros}
 use Rattle.signature.proofs.Adds.{sum_terms, adds_none, adds_first, adds_more}
 use Rattle.signature.proofs.Scatter.{row_times, layer_times, all_layers}
 use Rattle.signature.proofs.product.product.Goals as goal
-use Rattle.signature.proofs.product.product.Goals.{then-row-nonzero, else-row-nonzero}
+use Rattle.signature.proofs.product.product.Goals.{then-row_nonzero, else-row_nonzero}
 
 pub loop-k-init : goal.loop-k-init
 loop-k-init c = adds_first (replicate 512 0) _ refl
@@ -23,10 +23,10 @@ loop-j-preserved c =
     let factor : Polynomial = unpadded c.new-factor.result.rows in
     let row : ℕ → Polynomial = row_times (cell x) factor k in
     elim c.if-row_nonzero.branch [
-      | then-row-nonzero w ↦
+      | then-row_nonzero w ↦
           subst (λ zs. Adds c.loop-k.out (sum_terms (j + 1) row) zs) (sym w.out-is)
           (adds_more j row c.loop-k.out c.loop-j.out w.add_row_times.new.out c.loop-j.invariant w.add_row_times.ensures)
-      | else-row-nonzero w ↦
+      | else-row_nonzero w ↦
           subst (λ zs. Adds c.loop-k.out (sum_terms (j + 1) row) zs) (sym w.out-is)
           (adds_more j row c.loop-k.out c.loop-j.out c.loop-j.out c.loop-j.invariant
           (adds_none c.loop-j.out (row j) c.loop-j.invariant.long (λ a b d al bl dl. all_zero 8 _ (λ i il.

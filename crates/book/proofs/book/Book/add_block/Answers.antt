@@ -15,18 +15,16 @@ add-requires c =
 
 pub invariant_of-self : goal.invariant_of-self
 invariant_of-self c =
-    let b = c.args.self.now in (
-      omega arith,
-      (
-        ∥∥₁_map b.kept (λ k. (
+    let b = c.args.self.now in
+    record {
+      room = omega arith;
+      kept = ∥∥₁_map b.kept (λ k. (
           Join c.args.kind c.args.a c.args.b ∷ k.0,
           join_step k.0 (vec_items b.table.lines) b.last k.1 c.args.kind c.args.a c.args.b c.args.place_a c.args.place_b c.new-number.result.value
               (vec_items c.mark.new.self.lines) (vec_items c.mark-2.new.self.lines) (vec_items c.add.new.self.lines)
               (c.requires.allowed k.0 k.1) c.requires.first c.requires.second c.new-number.ensures c.mark.ensures.items c.mark-2.ensures.items c.add.ensures.items,
-        )),
-        tt,
-      ),
-    )
+        ));
+    }
 
 pub returns : goal.returns
 returns c h k =

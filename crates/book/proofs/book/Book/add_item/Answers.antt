@@ -15,17 +15,15 @@ add-requires c =
 
 pub invariant_of-self : goal.invariant_of-self
 invariant_of-self c =
-    let b = c.args.self.now in (
-      omega arith,
-      (
-        ∥∥₁_map b.kept (λ k. (
+    let b = c.args.self.now in
+    record {
+      room = omega arith;
+      kept = ∥∥₁_map b.kept (λ k. (
           Issue c.args.asked ∷ k.0,
           issue_step k.0 (vec_items b.table.lines) b.last k.1 c.args.asked c.new-number.result.value c.args.item_type (vec_items c.add.new.self.lines)
               (c.requires.allowed k.0 k.1) c.requires.known c.new-number.ensures c.add.ensures.items,
-        )),
-        tt,
-      ),
-    )
+        ));
+    }
 
 pub returns : goal.returns
 returns c h k =

@@ -4,4 +4,4 @@ use Rattle.book.proofs.book.Book.new.Goals as goal
 pub invariant_of-result : goal.invariant_of-result
 invariant_of-result c =
     let m = c.in_ok-lines.ensures in
-    (m.capacity, (∣ ([], record { lawful = tt; lines = m.items; last = refl }) ∣₁, tt))
+    record { room = m.capacity; kept = ∣ ([], record { lawful = tt; lines = m.items; last = refl }) ∣₁ }

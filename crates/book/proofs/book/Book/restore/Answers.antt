@@ -6,4 +6,4 @@ use Rattle.book.proofs.book.Book.restore.Goals as goal
 pub invariant_of-self : goal.invariant_of-self
 invariant_of-self c =
     let s = c.args.snapshot.now in
-    (c.replace.ensures.capacity, (subst (λ (xs : List Line). Kept xs s.last) (sym c.replace.ensures.items) s.kept, tt))
+    record { room = c.replace.ensures.capacity; kept = subst (λ (xs : List Line). Kept xs s.last) (sym c.replace.ensures.items) s.kept }

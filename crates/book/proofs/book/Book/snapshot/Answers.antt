@@ -36,7 +36,7 @@ pub invariant_of-result : goal.invariant_of-result
 invariant_of-result c =
     let v = c.args.self.now in
     let e = copied v c.len-count.result c.loop-place.place c.loop-place.lines c.len-count.ensures c.loop-place-test.false c.loop-place.auto.place-end c.loop-place.invariant.1 in
-    (c.loop-place.invariant.0, (omega (arith, few_held v, v.table.lines.ok.0), (subst (λ (ys : List Line). Kept ys v.last) e v.kept, tt)))
+    record { long = c.loop-place.invariant.0; within = omega (arith, few_held v, v.table.lines.ok.0); kept = subst (λ (ys : List Line). Kept ys v.last) e v.kept }
 
 pub returns : goal.returns
 returns c =

@@ -8,33 +8,29 @@ use Rattle.book.proofs.book.Book.take_out.Goals as goal
 pub invariant_of-self : goal.invariant_of-self
 invariant_of-self c =
     let b = c.args.self.now in
-    let part = ap (λ (l : Line). l.part) (sym c.take_out-line.ensures.value) ∙ c.in-Block.is in (
-      omega arith,
-      (
-        ∥∥₁_map b.kept (λ k. (
+    let part = ap (λ (l : Line). l.part) (sym c.take_out-line.ensures.value) ∙ c.in-Block.is in
+    record {
+      room = omega arith;
+      kept = ∥∥₁_map b.kept (λ k. (
           Withdraw c.args.number ∷ k.0,
           block_step k.0 (vec_items b.table.lines) b.last k.1 c.args.number c.args.place _ c.in-Block.a c.in-Block.b
               (vec_items c.take_out-line.new.self.lines) (vec_items c.release.new.self.lines) (vec_items c.release-in-Block.new.self.lines)
               (c.requires.1 k.0 k.1) c.requires.0 part c.take_out-line.ensures.items c.release.ensures.items c.release-in-Block.ensures.items,
-        )),
-        tt,
-      ),
-    )
+        ));
+    }
 
 pub invariant_of-self-in_default : goal.invariant_of-self-in_default
 invariant_of-self-in_default c =
     let b = c.args.self.now in
-    let part = ap (λ (l : Line). l.part) (sym c.take_out-line.ensures.value) ∙ c.in_default.is in (
-      omega arith,
-      (
-        ∥∥₁_map b.kept (λ k. (
+    let part = ap (λ (l : Line). l.part) (sym c.take_out-line.ensures.value) ∙ c.in_default.is in
+    record {
+      room = omega arith;
+      kept = ∥∥₁_map b.kept (λ k. (
           Withdraw c.args.number ∷ k.0,
           item_step k.0 (vec_items b.table.lines) b.last k.1 c.args.number c.args.place _ (vec_items c.take_out-line.new.self.lines)
               (c.requires.1 k.0 k.1) c.requires.0 part c.take_out-line.ensures.items,
-        )),
-        tt,
-      ),
-    )
+        ));
+    }
 
 pub returns-in-Block : goal.returns-in-Block
 returns-in-Block c h k =

@@ -7,4 +7,4 @@ use Rattle.plan.proofs.path_list.PathList.new.Goals as goal
 
 pub invariant_of-result : goal.invariant_of-result
 invariant_of-result c =
-    (search rules, (allowed_filled c.args.numbers (vec_items c.args.paths) (subst (λ ps. Allowed (each_path c.args.numbers ps)) c.deref.ensures.value c.in_ok-check_paths.ensures.0), tt))
+    record { long = search rules; filled = allowed_filled c.args.numbers (vec_items c.args.paths) (subst (λ ps. Allowed (each_path c.args.numbers ps)) c.deref.ensures.value c.in_ok-check_paths.ensures.0) }

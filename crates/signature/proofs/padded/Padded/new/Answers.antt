@@ -19,16 +19,13 @@ invariant_of-result c =
     let y = c.args.y.now in
     let rows = c.padded_rows-rows.result in
     let padding = c.padded_rows-rows.ensures.padding in
-    let zero = zero_past y rows padding c.padded_rows-rows.ensures.same in (
-      search rules,
-      (
-        padding,
-        (
-          (λ q h past. zero q h (c.degrees-b_end.ensures.past_b (8 * (q / 16) + (q % 16 - 8)) (omega arith) (omega arith))),
-          ((λ q h past. zero q h (c.degrees-b_end.ensures.past_c (8 * (q / 16) + (q % 16 - 8)) (omega arith) (omega arith))), tt),
-        ),
-      ),
-    )
+    let zero = zero_past y rows padding c.padded_rows-rows.ensures.same in
+    record {
+      long = search rules;
+      padding = padding;
+      past_b = λ q h past. zero q h (c.degrees-b_end.ensures.past_b (8 * (q / 16) + (q % 16 - 8)) (omega arith) (omega arith));
+      past_c = λ q h past. zero q h (c.degrees-b_end.ensures.past_c (8 * (q / 16) + (q % 16 - 8)) (omega arith) (omega arith));
+    }
 
 pub returns : goal.returns
 returns c = λ a b e al bl el.
