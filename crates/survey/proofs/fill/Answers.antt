@@ -8,8 +8,8 @@ use Rattle.survey.specs.Surveys.{HoldsBelow, sums_of}
 use Rattle.survey.proofs.Places.{line_at, holds_below, more, rest_more, filled}
 use Rattle.survey.proofs.fill.Goals as goal
 
-pub line-sums-sums-requires : goal.line-sums-sums-requires
-line-sums-sums-requires g c =
+pub line_sums-sums-requires : goal.line_sums-sums-requires
+line_sums-sums-requires g c =
     let m = g.T.Tally.meaning c.args.tally.now in
     let i = c.loop-place.place in
     let places = c.loop-place.bench.places.now in
@@ -33,13 +33,13 @@ loop-place-preserved g c =
     let m = g.T.Tally.meaning c.args.tally.now in
     let i = c.loop-place.place in
     let places = c.loop-place.bench.places.now in
-    let v = c.line-sums-sums.result in
+    let v = c.line_sums-sums.result in
     let held = c.put.ensures.held in (
       (λ h k.
           let e = c.lines-lines.ensures h k in
           ap (take (i + 1)) held
           ∙ more m h places i v (omega (arith, ap length e)) (omega (arith, ap length e, c.requires h k, c.loop-place.invariant.3)) (c.loop-place.invariant.0 h k)
-          (c.line-sums-sums.ensures h k ∙ ap (λ (xs : List Line). sums_of m h (get_or xs i no_line).number.value) e)),
+          (c.line_sums-sums.ensures h k ∙ ap (λ (xs : List Line). sums_of m h (get_or xs i no_line).number.value) e)),
       ap (drop (i + 1)) held ∙ rest_more places c.args.bench.now.places.now i v c.loop-place.invariant.1,
       c.put.ensures.same ∙ c.loop-place.invariant.2,
       ap length held ∙ length-set places i v ∙ c.loop-place.invariant.3,

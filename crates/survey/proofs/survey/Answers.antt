@@ -11,7 +11,7 @@ pub returns-then-len-lines : goal.returns-then-len-lines
 returns-then-len-lines g c = record {
   answer = record {
     answer = λ h k.
-        let a = (c.in-ok-place.ensures.1 h k).0 in
+        let a = (c.in_ok-place.ensures.1 h k).0 in
         inr (a.0, inr (a.1.0, inl (omega (arith, ap length (c.lines.ensures h k), lines_length h), refl)));
     bench = refl;
   };
@@ -19,17 +19,17 @@ returns-then-len-lines g c = record {
 }
 
 pub fill-requires : goal.fill-requires
-fill-requires g c κs h k = omega (arith, ap length (c.lines.ensures h k))
+fill-requires g c h k = omega (arith, ap length (c.lines.ensures h k))
 
 pub returns : goal.returns
 returns g c = record {
   answer = record {
     answer = λ h k.
         let n = c.args.number.value in
-        let f = c.in-ok-place.ensures in
+        let f = c.in_ok-place.ensures in
         let a = (f.1 h k).0 in (
           (a.0, (a.1.0, ((λ w. omega (arith, ap length (c.lines.ensures h k), lines_length h)), tt))),
-          at_place h n c.in-ok-place.place (⊎_elim (λ lt. lt) (λ z. absurd (a.0 (inl (omega arith)))) (cases_lt 0 n)) (subst (λ (xs : List Line). At xs n c.in-ok-place.place) k.lines f.0),
+          at_place h n c.in_ok-place.place (⊎_elim (λ lt. lt) (λ z. absurd (a.0 (inl (omega arith)))) (cases_lt 0 n)) (subst (λ (xs : List Line). At xs n c.in_ok-place.place) k.lines f.0),
         );
     bench = c.fill.ensures.sums;
   };

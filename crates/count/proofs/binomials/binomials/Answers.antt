@@ -2,8 +2,8 @@ use Rattle.std.proofs.Common.{◌≡◌, ◌-◌, ◌<◌, ◌∙◌, arith, len
 use Rattle.count.proofs.Choosing.{choose_small, row_old, row_more}
 use Rattle.count.proofs.binomials.binomials.Goals as goal
 
-pub overflow-add-row : goal.overflow-add-row
-overflow-add-row c =
+pub overflow_add-row : goal.overflow_add-row
+overflow_add-row c =
     let k = c.loop-k.k in
     let n = c.loop-above.above in
     let old = row_old c.loop-k.row n k c.loop-k.invariant.0 c.loop-k.invariant.1 in

@@ -3,15 +3,15 @@ use Rattle.count.specs.Laws.{choose}
 use Rattle.count.proofs.Choosing.{choose_small, two_small, three_small}
 use Rattle.count.proofs.binomials.count_choices.Goals as goal
 
-pub overflow-mul-cells : goal.overflow-mul-cells
-overflow-mul-cells c =
+pub overflow_mul-cells : goal.overflow_mul-cells
+overflow_mul-cells c =
     let k = c.loop-k.k in
     let one : get_or c.binomials-ones.result (k % 8) 0 ≤ 35 = omega (arith, c.binomials-ones.ensures (k % 8) (omega arith), choose_small c.args.one (k % 8) c.requires.ones) in
     let two : get_or c.binomials-twos.result (k / 8 % 8) 0 ≤ 35 = omega (arith, c.binomials-twos.ensures (k / 8 % 8) (omega arith), choose_small c.args.two (k / 8 % 8) c.requires.twos) in
     omega (arith, two_small _ _ one two)
 
-pub overflow-mul-cells-in-loop-k : goal.overflow-mul-cells-in-loop-k
-overflow-mul-cells-in-loop-k c =
+pub overflow_mul-cells-in-loop-k : goal.overflow_mul-cells-in-loop-k
+overflow_mul-cells-in-loop-k c =
     let k = c.loop-k.k in
     let one : get_or c.binomials-ones.result (k % 8) 0 ≤ 35 = omega (arith, c.binomials-ones.ensures (k % 8) (omega arith), choose_small c.args.one (k % 8) c.requires.ones) in
     let two : get_or c.binomials-twos.result (k / 8 % 8) 0 ≤ 35 = omega (arith, c.binomials-twos.ensures (k / 8 % 8) (omega arith), choose_small c.args.two (k / 8 % 8) c.requires.twos) in

@@ -5,11 +5,11 @@ use Rattle.plan.proofs.Masks.{bit_none}
 use Rattle.count.specs.Counts.{is_type, is_of_type}
 use Rattle.count.proofs.Lists.{gathered_none, gathered_one, gathered_all}
 use Rattle.count.proofs.by_type.places_of_type.Goals as goal
-use Rattle.count.proofs.by_type.places_of_type.Goals.{then-is-type, else-is-type}
+use Rattle.count.proofs.by_type.places_of_type.Goals.{then-is_type, else-is_type}
 
 pub loop-place-init : goal.loop-place-init
 loop-place-init g c i =
-    ap (λ m. bit m i) c.from-mask-found.ensures ∙ bit_none i
+    ap (λ m. bit m i) c.from_mask-found.ensures ∙ bit_none i
     ∙ sym (and_left (ltb i 0) (is_of_type (g.P.Plan.meaning c.args.plan.now) c.args.item_type i) (le-ltb i 0 (omega arith)))
 
 pub loop-place-preserved : goal.loop-place-preserved
@@ -18,11 +18,11 @@ loop-place-preserved g c =
     let of = is_of_type plan c.args.item_type in
     let place = c.loop-place.place in
     let here : c.is_type.result ≡ of place = c.is_type.ensures ∙ ap (is_type c.args.item_type) c.item_type.ensures in
-    elim c.if-is-type.branch [
-      | then-is-type w ↦
+    elim c.if-is_type.branch [
+      | then-is_type w ↦
           λ i. ap (λ s. members s i) w.found-is ∙ ap (λ s. s i) w.with-found.ensures
-          ∙ gathered_one of (members c.loop-place.found) place c.loop-place.invariant (omega arith) (sym here ∙ w.if-is-type.true) i
-      | else-is-type w ↦ λ i. ap (λ s. members s i) w.found-is ∙ gathered_none of (members c.loop-place.found) place c.loop-place.invariant (sym here ∙ w.if-is-type.false) i
+          ∙ gathered_one of (members c.loop-place.found) place c.loop-place.invariant (omega arith) (sym here ∙ w.if-is_type.true) i
+      | else-is_type w ↦ λ i. ap (λ s. members s i) w.found-is ∙ gathered_none of (members c.loop-place.found) place c.loop-place.invariant (sym here ∙ w.if-is_type.false) i
     ]
 
 pub returns : goal.returns

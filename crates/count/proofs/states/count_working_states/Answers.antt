@@ -28,14 +28,14 @@ below g c =
     let p = g.P.Plan.meaning c.args.plan.now in
     omega (arith, here g c, index_below p (few_from p c.requires.few) (members c.in-Some.state))
 
-pub offset-bounds-cells-cell : goal.offset-bounds-cells-cell
-offset-bounds-cells-cell g c = omega (arith, below g c)
+pub offset_bounds-cells-cell : goal.offset_bounds-cells-cell
+offset_bounds-cells-cell g c = omega (arith, below g c)
 
 pub bounds-cells-cell : goal.bounds-cells-cell
 bounds-cells-cell g c = below g c
 
-pub overflow-add-cells : goal.overflow-add-cells
-overflow-add-cells g c =
+pub overflow_add-cells : goal.overflow_add-cells
+overflow_add-cells g c =
     let p = g.P.Plan.meaning c.args.plan.now in
     let few = few_from p c.requires.few in
     let s = members c.in-Some.state in
@@ -52,7 +52,7 @@ loop-next-smaller g c =
     let s = c.in-Some.state in
     let whole = c.all-whole.result in
     let part : Part whole (Some s) = subst (Part whole) c.in-Some.is c.loop-next.invariant.1 in
-    omega (arith, falls whole s c.next-subset-next.result (c.next-subset-next.ensures part.1), ap to_come c.in-Some.is)
+    omega (arith, falls whole s c.next_subset-next.result (c.next_subset-next.ensures part.1), ap to_come c.in-Some.is)
 
 pub loop-next-preserved : goal.loop-next-preserved
 loop-next-preserved g c =
@@ -61,10 +61,10 @@ loop-next-preserved g c =
     let s = c.in-Some.state in
     let whole = c.all-whole.result in
     let part : Part whole (Some s) = subst (Part whole) c.in-Some.is c.loop-next.invariant.1 in
-    let next = c.next-subset-next.ensures part.1 in
-    let rest : (a b d : ℕ) → left c.loop-next.next (inner whole.mask (counted p a b d)) ≡ left c.next-subset-next.result (inner whole.mask (counted p a b d)) + counted p a b d (members s) = λ a b d.
-    ap (λ o. left o (inner whole.mask (counted p a b d))) c.in-Some.is ∙ left_more whole s c.next-subset-next.result part next (counted p a b d) in
-    let on : Part whole c.next-subset-next.result = part_more whole s c.next-subset-next.result part next in
+    let next = c.next_subset-next.ensures part.1 in
+    let rest : (a b d : ℕ) → left c.loop-next.next (inner whole.mask (counted p a b d)) ≡ left c.next_subset-next.result (inner whole.mask (counted p a b d)) + counted p a b d (members s) = λ a b d.
+    ap (λ o. left o (inner whole.mask (counted p a b d))) c.in-Some.is ∙ left_more whole s c.next_subset-next.result part next (counted p a b d) in
+    let on : Part whole c.next_subset-next.result = part_more whole s c.next_subset-next.result part next in
     elim c.if-works.branch [
       | then-works w ↦ (
         ap length w.cells-is ∙ length-set c.loop-next.cells w.cell.result _ ∙ c.loop-next.invariant.0,
@@ -87,4 +87,4 @@ loop-next-preserved g c =
 pub returns : goal.returns
 returns g c a b d la lb ld =
     let p = g.P.Plan.meaning c.args.plan.now in
-    omega (arith, c.loop-next.invariant.2 a b d la lb ld, ap (λ o. left o (inner c.all-whole.result.mask (counted p a b d))) c.in-default.is)
+    omega (arith, c.loop-next.invariant.2 a b d la lb ld, ap (λ o. left o (inner c.all-whole.result.mask (counted p a b d))) c.in_default.is)

@@ -2,11 +2,11 @@ use Rattle.std.proofs.Common.{sym, ◌∙◌, pow-suc, add-one, arith}
 use Rattle.sheet.proofs.Decimals.{decimal_more, decimal_none, decimal_all}
 use Rattle.sheet.proofs.number.read_digits.Goals as goal
 
-pub returns-in-default : goal.returns-in-default
-returns-in-default c = sym (decimal_none c.loop-b.n c.loop-b.b-index c.args.word.now (omega arith) (λ lo hi. omega arith)) ∙ c.loop-b.invariant.0
+pub returns-in_default : goal.returns-in_default
+returns-in_default c = sym (decimal_none c.loop-b.n c.loop-b.b-index c.args.word.now (omega arith) (λ lo hi. omega arith)) ∙ c.loop-b.invariant.0
 
-pub returns-in-default·2 : goal.returns-in-default·2
-returns-in-default·2 c = sym (decimal_none c.loop-b.n c.loop-b.b-index c.args.word.now (omega arith) (λ lo hi. omega arith)) ∙ c.loop-b.invariant.0
+pub returns-in_default-2 : goal.returns-in_default-2
+returns-in_default-2 c = sym (decimal_none c.loop-b.n c.loop-b.b-index c.args.word.now (omega arith) (λ lo hi. omega arith)) ∙ c.loop-b.invariant.0
 
 pub loop-b-preserved : goal.loop-b-preserved
 loop-b-preserved c = (

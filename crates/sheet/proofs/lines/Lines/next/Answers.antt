@@ -5,16 +5,16 @@ use Rattle.sheet.specs.Cursors.{lines_left}
 use Rattle.sheet.proofs.Cutting.{next_line, line_length, no_line}
 use Rattle.sheet.proofs.lines.Lines.next.Goals as goal
 
-pub overflow-add-line : goal.overflow-add-line
-overflow-add-line c =
+pub overflow_add-line : goal.overflow_add-line
+overflow_add-line c =
     let l = line_length c.args.self.now.text.now c.in-Some.rest.now c.cut.result.0.now (sym c.cut.ensures.rest ∙ ap (option_map (λ x. x.now)) c.in-Some.is) c.cut.ensures.front in omega arith
 
-pub overflow-add-self : goal.overflow-add-self
-overflow-add-self c =
+pub overflow_add-self : goal.overflow_add-self
+overflow_add-self c =
     let l = line_length c.args.self.now.text.now c.in-Some.rest.now c.cut.result.0.now (sym c.cut.ensures.rest ∙ ap (option_map (λ x. x.now)) c.in-Some.is) c.cut.ensures.front in omega arith
 
-pub overflow-add-self-in-Some-2 : goal.overflow-add-self-in-Some-2
-overflow-add-self-in-Some-2 c =
+pub overflow_add-self-in-Some-2 : goal.overflow_add-self-in-Some-2
+overflow_add-self-in-Some-2 c =
     let l = line_length c.args.self.now.text.now c.in-Some.rest.now c.cut.result.0.now (sym c.cut.ensures.rest ∙ ap (option_map (λ x. x.now)) c.in-Some.is) c.cut.ensures.front in omega arith
 
 pub returns-in-None : goal.returns-in-None

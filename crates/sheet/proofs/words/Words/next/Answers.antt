@@ -4,8 +4,8 @@ use Rattle.sheet.specs.Texts.{first, others}
 use Rattle.sheet.proofs.Cutting.{next_token, next_fits, place_fits}
 use Rattle.sheet.proofs.words.Words.next.Goals as goal
 
-pub overflow-add-self-in-Some : goal.overflow-add-self-in-Some
-overflow-add-self-in-Some c = omega (arith, place_fits c.args.self.now.place (option_map (λ x. x.now) c.args.self.now.rest) c.in-Some.line.now c.cut.result.0.now (ap (option_map (λ x. x.now)) c.in-Some.is) c.cut.ensures.front c.requires)
+pub overflow_add-self-in-Some : goal.overflow_add-self-in-Some
+overflow_add-self-in-Some c = omega (arith, place_fits c.args.self.now.place (option_map (λ x. x.now) c.args.self.now.rest) c.in-Some.line.now c.cut.result.0.now (ap (option_map (λ x. x.now)) c.in-Some.is) c.cut.ensures.front c.requires)
 
 pub returns-in-Some : goal.returns-in-Some
 returns-in-Some c =
