@@ -13,17 +13,17 @@ use Rattle.account.proofs.account.Goals as goal
 standing : (g : given.Over) (c : goal.After-lines g) (h : History) → Keeps h c.args.book.now → length c.lines.result.now ≡ lines_standing h
 standing g c h k = ap length (c.lines.ensures h k) ∙ lines_length h
 
-few : (g : given.Over) (c : goal.After-lines g) → length c.lines.result.now ≤ c.last-number-given.result
-few g c = ∥∥₁_elim c.args.book.now.kept (λ p q. le_prop p q) (λ k. omega (arith, standing g c k.0 k.1, balance k.0 k.1.lawful, c.last-number-given.ensures k.0 k.1))
+few : (g : given.Over) (c : goal.After-lines g) → length c.lines.result.now ≤ c.last_number-given.result
+few g c = ∥∥₁_elim c.args.book.now.kept (λ p q. le_prop p q) (λ k. omega (arith, standing g c k.0 k.1, balance k.0 k.1.lawful, c.last_number-given.ensures k.0 k.1))
 
-pub overflow-cast-standing : goal.overflow-cast-standing
-overflow-cast-standing g c = omega (arith, few g c)
+pub overflow_cast-standing : goal.overflow_cast-standing
+overflow_cast-standing g c = omega (arith, few g c)
 
-pub overflow-sub-result : goal.overflow-sub-result
-overflow-sub-result g c = few g c
+pub overflow_sub-result : goal.overflow_sub-result
+overflow_sub-result g c = few g c
 
 pub returns : goal.returns
 returns g c = record {
   runs = whole_runs (meanings g.T.Tally.meaning);
-  here = λ h k. let e = c.last-number-given.ensures h k in (e, standing g c h k, omega (arith, standing g c h k, balance h k.lawful));
+  here = λ h k. let e = c.last_number-given.ensures h k in (e, standing g c h k, omega (arith, standing g c h k, balance h k.lawful));
 }

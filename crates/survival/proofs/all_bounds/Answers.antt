@@ -9,8 +9,8 @@ use Rattle.survival.specs.Held.{fraction_of, BoundsOf, HeldBefore}
 use Rattle.survival.proofs.Places.{place_here, held_more}
 use Rattle.survival.proofs.all_bounds.Goals as goal
 
-pub line-bounds-requires : goal.line-bounds-requires
-line-bounds-requires c =
+pub line_bounds-requires : goal.line_bounds-requires
+line_bounds-requires c =
     let share = fraction_of c.args.fractions in
     let i = c.loop-place.place in
     let places = c.loop-place.places in
@@ -33,10 +33,10 @@ loop-place-preserved c =
     let share = fraction_of c.args.fractions in
     let i = c.loop-place.place in
     let places = c.loop-place.places in
-    let v = c.line-bounds.result in (
+    let v = c.line_bounds.result in (
       length-set places i v ∙ c.loop-place.invariant.0,
       λ h k.
           let e = c.lines-lines.ensures h k in
           held_more share h k.lawful places i v (omega (arith, ap length e, few_lines h k.lawful, c.loop-place.invariant.0)) (c.loop-place.invariant.1 h k)
-          (subst (λ (xs : List Line). BoundsOf share h (get_or xs i no_line).number.value v) e (c.line-bounds.ensures h k)),
+          (subst (λ (xs : List Line). BoundsOf share h (get_or xs i no_line).number.value v) e (c.line_bounds.ensures h k)),
     )

@@ -7,8 +7,8 @@ use Rattle.survival.proofs.lines.held_at.Goals as goal
 pub bounds-places-place : goal.bounds-places-place
 bounds-places-place c = omega (arith, c.in-Ok.ensures.0, few_held c.args.book.now)
 
-pub offset-bounds-places-place : goal.offset-bounds-places-place
-offset-bounds-places-place c = omega (arith, c.in-Ok.ensures.0, few_held c.args.book.now)
+pub offset_bounds-places-place : goal.offset_bounds-places-place
+offset_bounds-places-place c = omega (arith, c.in-Ok.ensures.0, few_held c.args.book.now)
 
 pub listed : goal.listed
 listed c = omega (arith, c.in-Ok.ensures.0, few_held c.args.book.now, c.told-places)
