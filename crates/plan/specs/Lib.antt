@@ -3,3 +3,4 @@ pub mod Plans
 pub mod Paths
 pub mod PathsLemmas
 pub mod Deciding
+pub mod LinePlans
