@@ -1,22 +1,25 @@
 #!/bin/sh
 # Misuses of sheets that must not build. Each NAME.txt is a small library over the crate `sheet`. Its first
 # line says which error the compiler must print for it ('// expect: error[..]: ..'), or that it must be proved.
-# Each is checked in a copy of the repository, since no crate of it may hold code that does not build.
-# Prints a line for each case, 'ok ..' or 'not ok ..'; the exit status is 1 if one is not ok.
+# Each is checked in a copy of the crates that it needs, since no crate of the repository may hold code that
+# does not build. Prints a line for each case, 'ok ..' or 'not ok ..'; the exit status is 1 if one is not ok.
 set -u
 here=$(cd "$(dirname "$0")" && pwd -P)
 root=$(cd "$here/../.." && pwd -P)
 work=$(mktemp -d) || exit 2
 trap 'rm -rf "$work"' EXIT
-cp -R "$root/crates" "$root/crates.txt" "$work/" || exit 2
-[ ! -d "$root/target" ] || cp -R "$root/target" "$work/target"
-printf '\nmisuse: rules book sheet\n' >>"$work/crates.txt"
-mkdir -p "$work/crates/misuse/src"
+mkdir -p "$work/crates/misuse/src" || exit 2
+for crate in rules book sheet; do
+    mkdir "$work/crates/$crate" || exit 2
+    cp -R "$root/crates/$crate/src" "$root/crates/$crate/specs" "$root/crates/$crate/proofs" "$work/crates/$crate/" || exit 2
+    grep "^$crate:" "$root/crates.txt" >>"$work/crates.txt" || exit 2
+done
+echo 'misuse: rules book sheet' >>"$work/crates.txt"
 bad=0
 for case in control apply_unchecked apply_twice forge copy let_go; do
     cp "$here/$case.txt" "$work/crates/misuse/src/lib.rt" || exit 2
     want=$(sed -n '1s|^// expect: ||p' "$here/$case.txt")
-    (cd "$work" && rt dev misuse) >"$work/log" 2>&1
+    (cd "$work/crates/misuse" && rt check) >"$work/log" 2>&1
     status=$?
     if [ "$want" = proved ]; then
         if [ "$status" -eq 0 ] && grep -q '^logic=proved' "$work/log"; then
@@ -25,7 +28,7 @@ for case in control apply_unchecked apply_twice forge copy let_go; do
         fi
     elif [ "$status" -eq 1 ] && ! grep -q '^logic=not-proved' "$work/log" &&
         [ "$(grep -c ': error' "$work/log")" -eq "$(grep -cF ": $want" "$work/log")" ] &&
-        grep -F ": $want" "$work/log" | grep -qF 'misuse/src/lib.rt:'; then
+        grep -F ": $want" "$work/log" | grep -qF 'src/lib.rt:'; then
         echo "ok misuse $case: refused by the compiler, as it must be: $want"
         continue
     fi

@@ -3,7 +3,7 @@
 # with status 0 each time, since a refusal is an answer. Prints a line for each case, 'ok ..' or 'not ok ..'.
 set -u
 here=$(cd "$(dirname "$0")" && pwd -P)
-program=${1:-$here/../../target/bin/outfit}
+program=${1:-$here/../../crates/outfit/out/outfit}
 work=$(mktemp -d) || exit 2
 trap 'rm -rf "$work"' EXIT
 bad=0
