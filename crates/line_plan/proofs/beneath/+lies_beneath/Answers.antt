@@ -11,10 +11,10 @@ abbrev holds : ℕ → Tree → Bool
 holds i x = has (items x) i
 
 pub lies_beneath-requires : goal.lies_beneath-requires
-lies_beneath-requires t c = (omega (arith, (lower c.args.book.now _ _ (λ h k. (c.in-Ok.ensures h k).1) _ _ _ c.in-Block.is).0, c.decreases), tt)
+lies_beneath-requires t c = let low = lower c.args.book.now _ _ (λ h k. (c.in-Ok.ensures h k).1) _ _ _ c.in-Block.is in (omega (arith, low.0, low.1, c.decreases), tt)
 
 pub lies_beneath-requires-else-lies_beneath : goal.lies_beneath-requires-else-lies_beneath
-lies_beneath-requires-else-lies_beneath t c = (omega (arith, (lower c.args.book.now _ _ (λ h k. (c.in-Ok.ensures h k).1) _ _ _ c.in-Block.is).1, c.decreases), tt)
+lies_beneath-requires-else-lies_beneath t c = let low = lower c.args.book.now _ _ (λ h k. (c.in-Ok.ensures h k).1) _ _ _ c.in-Block.is in (omega (arith, low.0, low.1, c.decreases), tt)
 
 pub returns-in-Item : goal.returns-in-Item
 returns-in-Item t c h k =

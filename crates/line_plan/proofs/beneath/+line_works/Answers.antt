@@ -15,13 +15,13 @@ use Rattle.line_plan.proofs.Trees.{answered, lower, none_refused, stands-none, s
 use Rattle.line_plan.proofs.beneath.+line_works.Goals as goal
 
 pub line_works-first-requires : goal.line_works-first-requires
-line_works-first-requires t c = (omega (arith, (lower c.args.book.now _ _ (λ h k. (c.in-Ok.ensures h k).1) _ _ _ c.in-Block.is).0, c.decreases), tt)
+line_works-first-requires t c = let low = lower c.args.book.now _ _ (λ h k. (c.in-Ok.ensures h k).1) _ _ _ c.in-Block.is in (omega (arith, low.0, low.1, c.decreases), tt)
 
 pub line_works-requires : goal.line_works-requires
-line_works-requires t c = (omega (arith, (lower c.args.book.now _ _ (λ h k. (c.in-Ok.ensures h k).1) _ _ _ c.in-Block.is).1, c.decreases), tt)
+line_works-requires t c = let low = lower c.args.book.now _ _ (λ h k. (c.in-Ok.ensures h k).1) _ _ _ c.in-Block.is in (omega (arith, low.0, low.1, c.decreases), tt)
 
 pub line_works-requires-else-first-2 : goal.line_works-requires-else-first-2
-line_works-requires-else-first-2 t c = (omega (arith, (lower c.args.book.now _ _ (λ h k. (c.in-Ok.ensures h k).1) _ _ _ c.in-Block.is).1, c.decreases), tt)
+line_works-requires-else-first-2 t c = let low = lower c.args.book.now _ _ (λ h k. (c.in-Ok.ensures h k).1) _ _ _ c.in-Block.is in (omega (arith, low.0, low.1, c.decreases), tt)
 
 abbrev runs : State → Tree → Bool
 runs s x = works x s
