@@ -27,7 +27,7 @@ use Rattle.sums.proofs.Members.{has_to}
 use Rattle.sums.proofs.Numbers.{numbers_semiring}
 use Rattle.sums.proofs.Places.{places_stand_lem}
 use Rattle.sums.proofs.States.{put_same, put_other}
-use Rattle.plan.specs.LinePlans.{line-plan}
+use Rattle.plan.specs.LinePlans.{plan_of_line}
 use Rattle.book.specs.declared.book.Book.{Book}
 use Rattle.book.specs.Keeps.{Keeps}
 use Rattle.book.proofs.Steps.{kept_bound}
@@ -132,7 +132,7 @@ module _ (h : History) (l : Lawful h) where
     line-runs n = ⊎_elim (λ lt. above (given h) n lt ∙ sym (stands-none runs n ((sound h l).above n lt))) (below (given h) n) (cases_lt (given h) n)
 
   -- the plan of a standing line
-  pub plan_is : (n : ℕ) → is_some (standing h n) ≡ true → (is : List TypedItem) → ItemsBeneath h n is → plan_over (lines_of h) n is ≡ line-plan h n
+  pub plan_is : (n : ℕ) → is_some (standing h n) ≡ true → (is : List TypedItem) → ItemsBeneath h n is → plan_over (lines_of h) n is ≡ plan_of_line h n
   plan_is n on is b = ap₂ (λ t w. record { types = t; works = w }) b.types
       (fun_ext (λ q. line-runs (state_of is q) n ∙ stands-tree (runs (state_of is q)) n on ∙ works_agree (tree_of h n) (state_of is q) (placed (rising_in h n) q)
       (λ i m. ap (λ ns. has ns i && placed ns q i) b.rising

@@ -14,5 +14,5 @@ returns c =
     let p = c.args.self.now in
     let s = state_of (listed p.items) (members c.args.state) in
     ∥∥₁_elim p.book.now.kept (Bool-set _ _) (λ k.
-    c.line-works.ensures k.0 k.1
+    c.line_works.ensures k.0 k.1
     ∙ sym (ap (λ (ls : List Line). lines_work s all_failed ls p.number.value) k.1.lines ∙ line-runs k.0 k.1.lawful s p.number.value))
