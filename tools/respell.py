@@ -37,6 +37,7 @@ OTHERWISE = {
 GOALS = ("Answers.antt", "Invariants.antt", "Choices.antt", "Proof.antt")
 DECLARED = re.compile(r"^(?:(?:abbrev|unfoldable) )?(?:pub )?(?:(?:record|data) )?([^\s(){}:.]+)(?: [({].*)? : (.*)$", re.M)
 MEMBER = re.compile(r"^  (?:pub )?([^\s(){}:.]+) : ", re.M)
+STRING = re.compile(r'("(?:[^"\\\\]|\\\\.)*")')
 EDGE = r"[\w'′-]"
 
 
@@ -81,8 +82,9 @@ def turn(text, path, names):
     out = []
     for line in text.split("\n"):
         end = comment(line, path)
-        code = names.sub(lambda m: respelled(m.group(1) or m.group(2)), line[:end])
-        out.append(code + line[end:])
+        parts = STRING.split(line[:end]) if path.endswith(".rt") else [line[:end]]
+        code = [p if p.startswith('"') else names.sub(lambda m: respelled(m.group(1) or m.group(2)), p) for p in parts]
+        out.append("".join(code) + line[end:])
     return "\n".join(out)
 
 

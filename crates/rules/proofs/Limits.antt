@@ -1,15 +1,13 @@
 -- How many lines stand after a lawful history.
-use Rattle.std.proofs.Common.{◌≡◌, ℕ, zero, suc, ◌+◌, ◌<◌, ◌≤◌, Bool, true, false, cond, not, ◌&&◌, ◌||◌, eqb, ◌⊎◌, List, [], ◌∷◌, ◌++◌, length, is_some, Some, None, count_by, Option, sym, refl, ap, ◌∙◌, subst, inl, inr, ⊎_elim, arith}
+use Rattle.std.proofs.Common.{◌≡◌, ℕ, zero, suc, ◌+◌, ◌<◌, ◌≤◌, Bool, true, false, cond, ◌||◌, eqb, List, [], ◌∷◌, length, is_some, Some, None, count_by, Option, sym, refl, ap, ◌∙◌, subst, ⊎_elim, arith}
 use Rattle.std.specs.Option.{option_map, option_to_list}
-use Rattle.std.proofs.lemmas.Bool.{cases_Bool, cases_eq, cases_lt, eqb-true, eq-eqb, ne_eqb, cond-true, cond-false, or_left, or_right, or_cases, or_from, and_from, not_from_false, both_ways}
+use Rattle.std.proofs.lemmas.Bool.{cases_Bool, cases_eq, cases_lt, eqb-true, eq-eqb, ne_eqb, cond-true, cond-false, or_left, or_cases, or_from, and_from, not_from_false, both_ways}
 use Rattle.rules.specs.declared.change.Change.TheVariants.{Issue, Join, Withdraw}
 use Rattle.rules.specs.declared.item_type.ItemType.{ItemType}
 use Rattle.rules.specs.declared.item_type.ItemType.TheVariants.{One, Two, Three}
-use Rattle.rules.specs.declared.kind.Kind.{Kind}
 use Rattle.rules.specs.declared.line.Line.{Line}
 use Rattle.rules.specs.declared.line.Part.{Part}
 use Rattle.rules.specs.declared.line.Part.TheVariants.{Item, Block}
-use Rattle.rules.specs.declared.part_number.PartNumber.{PartNumber}
 use Rattle.rules.specs.Types.{type_number, type_numbered}
 use Rattle.rules.specs.History.{History, given, standing, withdrawals, has, under, how_many, is_built_in, free, is_item, is_block, is_item_of, lines_standing, items_standing, items_of_type, blocks_standing, lines_free, line_of, lines_of}
 use Rattle.rules.specs.Ruled.{Lawful}

@@ -1,8 +1,7 @@
 -- What holds of the lines that stand after a lawful history.
-use Rattle.std.proofs.Common.{◌≡◌, ℕ, zero, suc, ◌+◌, ◌<◌, ◌≤◌, Bool, true, false, cond, not, ◌&&◌, ◌||◌, eqb, ◌⊎◌, List, [], ◌∷◌, ◌++◌, is_some, Some, None, Option, sym, refl, ap, ◌∙◌, subst, inl, inr, ⊎_elim, arith}
+use Rattle.std.proofs.Common.{◌≡◌, ℕ, zero, suc, ◌<◌, ◌≤◌, Bool, true, false, cond, ◌||◌, eqb, ◌⊎◌, List, [], ◌∷◌, is_some, Some, None, Option, sym, refl, ap, ◌∙◌, subst, inl, inr, ⊎_elim, arith}
 use Rattle.std.specs.Option.{option_map}
 use Rattle.std.proofs.lemmas.Bool.{cases_Bool, cases_lt, eqb-true, eq-eqb, ne_eqb, cond-true, cond-false, or_cases, or_from, both_ways}
-use Rattle.rules.specs.declared.change.Change.{Change}
 use Rattle.rules.specs.declared.change.Change.TheVariants.{Issue, Join, Withdraw}
 use Rattle.rules.specs.declared.item_type.ItemType.{ItemType}
 use Rattle.rules.specs.declared.kind.Kind.{Kind}
@@ -10,10 +9,9 @@ use Rattle.rules.specs.declared.line.Part.{Part}
 use Rattle.rules.specs.declared.line.Part.TheVariants.{Item, Block}
 use Rattle.rules.specs.declared.part_number.PartNumber.{PartNumber}
 use Rattle.rules.specs.Types.{type_numbered}
-use Rattle.rules.specs.Lines.{beneath}
 use Rattle.rules.specs.History.{History, given, standing, has, under, any_upto, is_built_in}
 use Rattle.rules.specs.Rules.{Allowed}
-use Rattle.rules.specs.Ruled.{naming, using_line, joining, change_rules, Lawful}
+use Rattle.rules.specs.Ruled.{using_line, change_rules, Lawful}
 use Rattle.rules.proofs.Counting.{cond_cases, any_same, any_none, any_has, Distinct}
 
 -- what stands, but for the number x

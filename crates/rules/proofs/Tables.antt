@@ -1,5 +1,5 @@
 -- The list of standing lines, and what each change makes of it.
-use Rattle.std.proofs.Common.{◌≡◌, ℕ, zero, suc, ◌+◌, ◌<◌, ◌≤◌, Bool, true, false, cond, ◌||◌, eqb, ◌≢◌, ◌⊎◌, List, [], ◌∷◌, ◌++◌, length, get_or, set, is_some, Some, None, Option, sym, refl, ap, ◌∙◌, subst, inl, inr, ⊎_elim, arith}
+use Rattle.std.proofs.Common.{◌≡◌, ℕ, suc, ◌<◌, ◌≤◌, Bool, true, false, cond, ◌||◌, eqb, ◌≢◌, List, [], ◌∷◌, ◌++◌, length, get_or, Some, None, Option, sym, refl, ap, ◌∙◌, subst, ⊎_elim, arith}
 use Rattle.std.specs.Option.{option_map, option_to_list}
 use Rattle.std.specs.List.{remove}
 use Rattle.std.proofs.lemmas.List.{length-set, get_or-set_other}
@@ -12,11 +12,11 @@ use Rattle.rules.specs.declared.line.Part.{Part}
 use Rattle.rules.specs.declared.line.Part.TheVariants.{Item, Block}
 use Rattle.rules.specs.declared.part_number.PartNumber.{PartNumber}
 use Rattle.rules.specs.Types.{type_numbered}
-use Rattle.rules.specs.Tables.{with_mark, no_line, marked, At, Missing, Released}
+use Rattle.rules.specs.Tables.{with_mark, no_line, marked, Released}
 use Rattle.rules.specs.History.{History, given, standing, has, under, is_built_in, line_of, listing, lines_of}
 use Rattle.rules.specs.Ruled.{Lawful}
 use Rattle.rules.proofs.Listings.{listing_same, listing_in, listing_has, listing-set, listing-removed}
-use Rattle.rules.proofs.Sound.{changed, built, Sound, sound, some_low, next_not_built, built_add, built_out, item_under, Usable, usable, Joinable, joinable}
+use Rattle.rules.proofs.Sound.{changed, built, sound, next_not_built, built_add, built_out, joinable}
 
 -- the line n of a part, with its mark
 abbrev pub line : ℕ → Part → Bool → Line

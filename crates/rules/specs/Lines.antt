@@ -1,10 +1,8 @@
 -- What a line is.
 use Rattle.std.specs.Prelude.{ℕ, List, [], ◌∷◌, Some, None, Option}
 use Rattle.rules.specs.declared.item_type.ItemType.{ItemType}
-use Rattle.rules.specs.declared.kind.Kind.{Kind}
 use Rattle.rules.specs.declared.line.Part.{Part}
 use Rattle.rules.specs.declared.line.Part.TheVariants.{Item, Block}
-use Rattle.rules.specs.declared.part_number.PartNumber.{PartNumber}
 
 -- the type of an item; a block has none
 abbrev pub type_of_part : Part → Option ItemType

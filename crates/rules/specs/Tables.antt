@@ -3,7 +3,6 @@ use Rattle.std.specs.Prelude.{◌≡◌, ℕ, ◌<◌, Bool, false, ◌⊎◌, L
 use Rattle.rules.specs.declared.item_type.ItemType.TheVariants.{One}
 use Rattle.rules.specs.declared.line.Line.{Line}
 use Rattle.rules.specs.declared.line.Part.TheVariants.{Item}
-use Rattle.rules.specs.declared.part_number.PartNumber.{PartNumber}
 
 -- what a reading past the end of a table gives
 abbrev pub no_line : Line

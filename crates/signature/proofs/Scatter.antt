@@ -1,5 +1,5 @@
 -- The sum over all cells of the left factor, each times the right factor moved, is the product.
-use Rattle.std.proofs.Common.{◌≡◌, ℕ, ◌-◌, ◌*◌, ◌<◌, ◌≤◌, sym, refl, ap, ◌∙◌, mul-zero, arith}
+use Rattle.std.proofs.Common.{◌≡◌, ℕ, ◌-◌, ◌*◌, ◌<◌, ◌≤◌, ap, ◌∙◌, mul-zero, arith}
 use Rattle.signature.specs.Polynomials.{Polynomial, product_of}
 use Rattle.signature.specs.Steps.{sum_below, moved}
 use Rattle.signature.proofs.Sums.{sum_same, all_zero, sum_swap, sum_cut}

@@ -1,9 +1,8 @@
 -- The signature's tables are a commutative semiring: what holds of polynomials holds of their tables.
-use Rattle.std.specs.Prelude.{◌≡◌, ℕ, ◌+◌, ◌-◌, ◌%◌, ◌<◌, refl}
+use Rattle.std.specs.Prelude.{◌≡◌, ℕ, ◌-◌, ◌%◌, ◌<◌, refl}
 use Rattle.std.proofs.Common.{sym, ap, ◌∙◌, arith}
 use Rattle.std.proofs.Math.Nat.{mod-mod}
-use Rattle.sums.specs.Semiring.{Meaning, Semiring}
-use Rattle.cells.specs.declared.table.CellTable.{CellTable}
+use Rattle.sums.specs.Semiring.{Semiring}
 use Rattle.cells.specs.Tables.{table_of, at}
 use Rattle.cells.proofs.Tables.{cell_of, table_of_cells, same_table_of}
 use Rattle.signature.specs.Polynomials.{Polynomial, one_at, sum_of, product_of}

@@ -1,5 +1,5 @@
 -- Numbers that are the same modulo 65,536.
-use Rattle.std.specs.Prelude.{◌≡◌, ℕ, zero, suc, ◌+◌, ◌*◌, ◌/◌, ◌%◌, ◌≤◌, refl}
+use Rattle.std.specs.Prelude.{◌≡◌, ℕ, zero, suc, ◌+◌, ◌*◌, ◌/◌, ◌%◌, ◌≤◌}
 use Rattle.std.proofs.Common.{sym, ap, ap₂, ◌∙◌, mul_comm, arith}
 use Rattle.std.proofs.Math.Nat.{add-mod, mod-add-div, add-mul-mod_self_left}
 use Rattle.signature.specs.Polynomials.{sum_to}

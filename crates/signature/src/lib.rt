@@ -8,8 +8,8 @@ mod tests;
 pub mod theorems;
 
 ghost use Rattle.std.specs.Prelude.{◌≡◌, ◌<◌};
-ghost use Rattle.cells.specs.Tables.{«table_of»};
-ghost use Rattle.signature.specs.Polynomials.{«one_at»};
+ghost use Rattle.cells.specs.Tables.{table_of};
+ghost use Rattle.signature.specs.Polynomials.{one_at};
 ghost use Rattle.signature.specs.Signature.{signature};
 ghost use Rattle.signature.specs.Laws.{signature_semiring};
 
@@ -63,7 +63,7 @@ impl Tally for Signature {
 // The table with 1 in the cell (a, b, c) and 0 elsewhere.
 fn one_at(a: usize, b: usize, c: usize) -> CellTable
     requires { (a < 8) × ((b < 8) × (c < 8)) }
-    ensures { result ≡ «table_of» («one_at» a b c) }
+    ensures { result ≡ table_of (one_at a b c) }
 {
     let mut cells = [0u16; 512];
     cells[a + 8 * b + 64 * c] = 1;

@@ -1,7 +1,6 @@
 -- The tree beneath each standing line.
-use Rattle.std.proofs.Common.{◌≡◌, ℕ, zero, suc, ◌+◌, ◌<◌, ◌≤◌, Bool, true, false, cond, ◌||◌, eqb, ◌⊎◌, List, [], ◌∷◌, ◌++◌, length, is_some, Some, None, Option, sym, refl, ap, ◌∙◌, subst, ap₂, inl, inr, ⊎_elim, arith}
+use Rattle.std.proofs.Common.{◌≡◌, ℕ, suc, ◌<◌, ◌≤◌, true, false, cond, ◌||◌, eqb, ◌⊎◌, List, [], ◌∷◌, length, is_some, Some, None, Option, sym, refl, ap, ◌∙◌, subst, ap₂, inl, inr, ⊎_elim, arith}
 use mathlib.Core.List.Memᴰ
-use mathlib.Core.List.{Memᴰ}
 use Rattle.std.specs.Option.{option_map}
 use Rattle.std.proofs.lemmas.Bool.{cases_Bool, cases_eq, eqb-true, eq-eqb, ne_eqb, cond-true, cond-false, or_cases, or_left, or_right, both_ways}
 use Rattle.rules.specs.declared.change.Change.TheVariants.{Issue, Join, Withdraw}
@@ -13,12 +12,12 @@ use Rattle.rules.specs.declared.part_number.PartNumber.{PartNumber}
 use Rattle.rules.specs.Types.{type_numbered}
 use Rattle.rules.specs.History.{History, given, standing, has, under, is_item}
 use Rattle.rules.specs.Ruled.{Lawful}
-use Rattle.rules.specs.Trees.{Tree, item, block, items, IsTree, tree_of, type_at, type_in}
+use Rattle.rules.specs.Trees.{Tree, item, block, items, IsTree, tree_of, type_at}
 use Rattle.rules.proofs.Counting.{cond_cases, how_many_more, how_many_fewer, Distinct as Unlike}
-use Rattle.rules.proofs.Sound.{changed, Sound, sound, some_low, some_positive, not_over, Usable, usable, Joinable, joinable, item_under}
+use Rattle.rules.proofs.Sound.{changed, Sound, sound, some_low, some_positive, not_over, Usable, usable, joinable}
 use Rattle.rules.proofs.Limits.{known_type, few_items}
 use Rattle.sums.specs.Members.{◌∈◌, Apart, Distinct, Once}
-use Rattle.sums.specs.Forest.{TreeStands, TreesStand}
+use Rattle.sums.specs.Forest.{TreesStand}
 use Rattle.sums.proofs.Members.{has_from, once_distinct}
 
 -- two lines of a block lie beneath it

@@ -88,7 +88,7 @@ fn show_line<W: Write>(answer: Result<Line, Refusal>, out: &mut W) -> io::Result
     let place = if line.is_free() {
         "free"
     } else {
-        "is_built_in"
+        "built-in"
     };
     match line.part {
         Part::Item(item_type) => {

@@ -1,4 +1,4 @@
-use Rattle.std.proofs.Common.{◌≡◌, ◌+◌, ◌*◌, ◌%◌, get_or, replicate, sym, refl, ap, ◌∙◌, ap₂, zero-add, arith}
+use Rattle.std.proofs.Common.{◌+◌, ◌*◌, ◌%◌, get_or, replicate, sym, refl, ap, ◌∙◌, zero-add, arith}
 use Rattle.signature.specs.Polynomials.{one_at}
 use Rattle.signature.proofs.Cells.{getD_zeros, held}
 use Rattle.signature.proofs.Adds.{adds_set}

@@ -1,4 +1,4 @@
-use Rattle.std.proofs.Common.{◌≡◌, ◌+◌, ◌*◌, ◌%◌, get_or, sym, ap, ◌∙◌}
+use Rattle.std.proofs.Common.{◌+◌, ◌*◌, ◌%◌, get_or, ap, ◌∙◌}
 use Rattle.signature.proofs.Cells.{getD_zeros, held}
 use Rattle.signature.proofs.SignatureTally.none.Goals as goal
 

@@ -1,4 +1,4 @@
-use Rattle.std.proofs.Common.{◌≡◌, sym, ap, ◌∙◌}
+use Rattle.std.proofs.Common.{sym, ap, ◌∙◌}
 use Rattle.cells.specs.Tables.{table_of}
 use Rattle.signature.specs.Polynomials.{variable}
 use Rattle.signature.proofs.SignatureTally.working.Goals as goal

@@ -1,5 +1,5 @@
-use Rattle.std.proofs.Common.{◌≡◌, ℕ, ◌+◌, ◌<◌, get_or, ◌∙◌, ap₂, arith, below_more}
-use lib.Bits.{bit_or, bit_and, or_add_and}
+use Rattle.std.proofs.Common.{◌≡◌, ℕ, ◌+◌, get_or, ap₂, arith, below_more}
+use lib.Bits.{bit_or, or_add_and}
 use Rattle.std.proofs.lemmas.Nat.{and_le_l, and_le_r}
 use Rattle.signature.proofs.padded.row_nonzero.Goals as goal
 

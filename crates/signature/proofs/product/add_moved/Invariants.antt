@@ -1,4 +1,3 @@
-use Rattle.std.proofs.Common.{ℕ}
 use Rattle.signature.specs.Steps.{Adds}
 use Rattle.signature.proofs.Adds.{sum_terms}
 use Rattle.signature.proofs.Moves.{moved_row}

@@ -1,4 +1,4 @@
-use Rattle.std.proofs.Common.{ℕ, ◌+◌, ◌*◌, get_or}
+use Rattle.std.proofs.Common.{◌+◌, ◌*◌, get_or}
 use Rattle.signature.specs.Steps.{Adds}
 use Rattle.signature.proofs.Adds.{at_cell, sum_terms}
 use Rattle.signature.proofs.product.add_row.Given as goal
