@@ -1,15 +1,15 @@
 -- Items by places.
-use Rattle.std.proofs.Common.{◌≡◌, ℕ, zero, suc, ◌<◌, ◌≤◌, Bool, true, false, cond, ◌&&◌, eqb, List, [], ◌∷◌, length, get_or, take, Some, sym, refl, ap, ◌∙◌, ⊎_elim, arith}
+use Rattle.std.proofs.Common.{◌≡◌, ℕ, zero, suc, ◌<◌, ◌≤◌, true, false, ◌&&◌, List, [], ◌∷◌, length, get_or, take, Some, sym, refl, ap, ◌∙◌, arith}
 use Rattle.std.specs.Option.{option_map}
 use Rattle.std.proofs.lemmas.List.{length-map, length-take-le, get_or-map, get_or-take}
 use Rattle.std.proofs.lemmas.Option.{slice_get-get_or}
-use Rattle.std.proofs.lemmas.Bool.{eqb-true, eqb-false, eq-eqb, ne_eqb, cond-true, cond-false, and_left, or_cases, or_left, or_right, or_from, both_ways}
-use Rattle.rules.specs.declared.item_type.ItemType.TheVariants.{One}
+use Rattle.std.proofs.lemmas.Bool.{eq-eqb, ne_eqb, cond-true, cond-false, and_left, or_left, or_right, or_from}
 use Rattle.rules.specs.History.{has}
 use Rattle.rules.specs.Trees.{State}
 use Rattle.sums.specs.Order.{place_of, placed}
 use Rattle.line_plan.specs.declared.item_list.TypedItem.{TypedItem}
 use Rattle.line_plan.specs.Items.{numbers, types_of, state_of}
+use Rattle.line_plan.specs.MeaningsLemmas.{no_item}
 
 -- where a number stands first
 first_place : (ns : List ℕ) (k n : ℕ) → k < length ns → ((j : ℕ) → j < k → get_or ns j 0 ≡ n → ⊥) → get_or ns k 0 ≡ n → (has ns n ≡ true) × (place_of ns n ≡ k)
@@ -22,19 +22,6 @@ first_place (m ∷ ns) (suc k) n lt before here =
 no_place : (ns : List ℕ) (n : ℕ) → ((j : ℕ) → j < length ns → get_or ns j 0 ≡ n → ⊥) → has ns n ≡ false
 no_place [] n none = refl
 no_place (m ∷ ns) n none = or_from _ _ (ne_eqb n m (λ e. none 0 (omega arith) (sym e))) (no_place ns n (λ j low. none (suc j) (omega arith)))
-
-pub place_low : (ns : List ℕ) (n : ℕ) → has ns n ≡ true → place_of ns n < length ns
-place_low [] n e = absurd (both_ways false refl e)
-place_low (m ∷ ns) n e = at (eqb m n) refl (place_low ns n)
-  where
-    at : (x : Bool) → eqb m n ≡ x → (has ns n ≡ true → place_of ns n < length ns) → cond x zero (suc (place_of ns n)) < suc (length ns)
-    at true same more = omega arith
-    at false differ more =
-        ⊎_elim (λ here. absurd (eqb-false m n differ (sym (eqb-true n m here)))) (λ later. omega (arith, more later)) (or_cases (eqb n m) (has ns n) e)
-
--- what a reading past the end gives
-abbrev pub no_item : TypedItem
-no_item = record { number = record { value = 0 }; item_type = One }
 
 -- the first c of the items xs
 module _ (xs : List TypedItem) (c : ℕ) (le : c ≤ length xs) where

@@ -9,8 +9,8 @@ use Rattle.line_plan.proofs.LinePlan.new.Goals as goal
 pub returns : goal.returns
 returns c h k =
     let n = c.args.number.value in
-    let found = c.in-ok--line.ensures h k in
-    let is = listed c.items-beneath-items.result in (
+    let found = c.in_ok-_line.ensures h k in
+    let is = listed c.items_beneath-items.result in (
       found.0,
-      ap (λ (ls : List Line). plan_over ls n is) k.lines ∙ plan_is h k.lawful n (ap is_some (answer_stands h n _ found.1)) is (c.items-beneath-items.ensures h k),
+      ap (λ (ls : List Line). plan_over ls n is) k.lines ∙ plan_is h k.lawful n (ap is_some (answer_stands h n _ found.1)) is (c.items_beneath-items.ensures h k),
     )

@@ -1,4 +1,4 @@
 use Rattle.line_plan.proofs.beneath.+lies_beneath.Given as goal
 
-abbrev pub decreases-lies-beneath : goal.decreases-lies-beneath
-decreases-lies-beneath l = l.number.value
+abbrev pub decreases-lies_beneath : goal.decreases-lies_beneath
+decreases-lies_beneath l = l.number.value

@@ -1,5 +1,5 @@
 use Rattle.std.proofs.Common.{◌≡◌, ℕ, ◌<◌, get_or}
-use Rattle.line_plan.proofs.Places.{no_item}
+use Rattle.line_plan.specs.MeaningsLemmas.{no_item}
 use Rattle.line_plan.proofs.item_list.ItemList.works.Given as goal
 
 abbrev pub invariant-loop-place : goal.invariant-loop-place

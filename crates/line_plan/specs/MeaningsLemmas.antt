@@ -1,10 +1,11 @@
 -- The laws of plans, for every value of the type of a line's plan.
-use Rattle.std.proofs.Common.{◌≡◌, ℕ, ◌≤◌, Bool, true, false, cond, ◌&&◌, eqb, List, [], ◌∷◌, length, vec_items, sym, ap, ◌∙◌, ⊎_elim, arith}
+use Rattle.std.proofs.Common.{◌≡◌, ℕ, zero, suc, ◌<◌, ◌≤◌, Bool, true, false, cond, ◌&&◌, eqb, List, [], ◌∷◌, length, is_some, Some, None, vec_items, Option, sym, refl, ap, ◌∙◌, ⊎_elim, arith}
 use mathlib.Core.Path.{fun_ext}
 use Rattle.std.specs.Option.{option_map}
 use Rattle.std.proofs.lemmas.List.{length-map, length-take-le}
 use Rattle.std.proofs.lemmas.Option.{slice_get-get_or, slice_get_past}
-use Rattle.std.proofs.lemmas.Bool.{cases_Bool, and_parts, and_from, and_left, or_cases, or_left, or_right}
+use Rattle.std.proofs.lemmas.Bool.{true≢false, both_ways, cases_Bool, eqb-true, eqb-false, and_parts, and_from, and_left, or_cases, or_left, or_right}
+use Rattle.rules.specs.declared.item_type.ItemType.TheVariants.{One}
 use Rattle.rules.specs.declared.kind.Kind.{Kind}
 use Rattle.rules.specs.declared.kind.Kind.TheVariants.{Series, Parallel}
 use Rattle.rules.specs.declared.line.Line.{Line}
@@ -17,12 +18,28 @@ use Rattle.sums.specs.Order.{place_of}
 use Rattle.sums.specs.States.{all_failed, put}
 use Rattle.plan.specs.Sets.{Within}
 use Rattle.plan.specs.Plans.{Agree, LawfulPlan}
-use Rattle.book.proofs.Steps.{some_not_none}
 use Rattle.line_plan.specs.declared.LinePlan.{LinePlan}
 use Rattle.line_plan.specs.declared.item_list.TypedItem.{TypedItem}
 use Rattle.line_plan.specs.Items.{listed, numbers, types_of, state_of}
 use Rattle.line_plan.specs.Meanings.{part_works, lines_work, plan_over, plan_meant}
-use Rattle.line_plan.proofs.Places.{place_low, no_item}
+
+-- what is something is not nothing
+some_not_none : {X : Type 0} (o : Option X) (x : X) → o ≡ Some x → o ≡ None → ⊥
+some_not_none o x e f = true≢false (ap is_some (sym e ∙ f))
+
+-- a number of a list has a place in it
+pub place_low : (ns : List ℕ) (n : ℕ) → has ns n ≡ true → place_of ns n < length ns
+place_low [] n e = absurd (both_ways false refl e)
+place_low (m ∷ ns) n e = at (eqb m n) refl (place_low ns n)
+  where
+    at : (x : Bool) → eqb m n ≡ x → (has ns n ≡ true → place_of ns n < length ns) → cond x zero (suc (place_of ns n)) < suc (length ns)
+    at true same more = omega arith
+    at false differ more =
+        ⊎_elim (λ here. absurd (eqb-false m n differ (sym (eqb-true n m here)))) (λ later. omega (arith, more later)) (or_cases (eqb n m) (has ns n) e)
+
+-- what a reading past the end gives
+abbrev pub no_item : TypedItem
+no_item = record { number = record { value = 0 }; item_type = One }
 
 -- one more working item never stops a line
 block_monotone : (k : Kind) (a b c d : Bool) → (a ≡ true → c ≡ true) → (b ≡ true → d ≡ true) → block_works k a b ≡ true → block_works k c d ≡ true
