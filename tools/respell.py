@@ -89,7 +89,9 @@ def turn(text, path, names):
 
 
 def half_turned(text):
-    """The toolchain's script turned `built-in` to `built_in`, a field's name, where it stood alone."""
+    """What the toolchain's script had turned half: `built-in` to `built_in`, a field's name, where it stood
+    alone; and `Goes-on` to `Goes_on`, and quotes left round names that no longer want them."""
+    text = re.sub(r"(?<![\w'-])Goes_on(?![\w'-])", "GoesOn", re.sub(r"«(\w+_\w+)»", r"\1", text))
     if not re.search(r"History\.\{[^}]*\bbuilt_in\b", text):
         return text
     return re.sub(r"(?<![\w.'-])built_in(?![\w'-]| =)", "is_built_in", text)

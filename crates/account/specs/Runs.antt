@@ -36,8 +36,8 @@ pub record WholeRuns {I : Type 0} {F : I → Type 0} (meaning : (i : I) → Mean
       → Run meaning (later ++ c ∷ before) b → (n : ℕ) → TakenOut n (history before) → Names n c → IsRefused c
 
 -- whatever was called on the book before, the call goes on the run
-abbrev pub Goes_on : {I : Type 0} {F : I → Type 0} → ((i : I) → Meaning (F i)) → Call I F → Book → Book → Type 0
-Goes_on {I} {F} meaning c b b' = (cs : List (Call I F)) → Run meaning cs b → Run meaning (c ∷ cs) b'
+abbrev pub GoesOn : {I : Type 0} {F : I → Type 0} → ((i : I) → Meaning (F i)) → Call I F → Book → Book → Type 0
+GoesOn {I} {F} meaning c b b' = (cs : List (Call I F)) → Run meaning cs b → Run meaning (c ∷ cs) b'
 
 -- the numbers given, the lines standing and the withdrawals made of a book
 abbrev pub Accounts : Book → ℕ → ℕ → ℕ → Type 0

@@ -1,7 +1,6 @@
 -- All states of the places, cell by cell, are products of binomials, and none is above 2,450.
-use Rattle.std.proofs.Common.{◌≡◌, ℕ, zero, suc, ◌+◌, ◌-◌, ◌*◌, ◌/◌, ◌<◌, ◌≤◌, Bool, true, false, cond, ◌&&◌, T, eqb, ltb, leb, ◌⊎◌, List, [], ◌∷◌, length, get_or, set, is_some, Some, None, Option, sym, refl, ap, ◌∙◌, ap₂, inl, inr, ⊎_elim, le_trans, mul-le-mul, add_comm, zero-add, one-add, arith, le→leb, leb→le, get_or-set_other, get_or-set_same}
+use Rattle.std.proofs.Common.{◌≡◌, ℕ, zero, suc, ◌+◌, ◌-◌, ◌*◌, ◌/◌, ◌<◌, ◌≤◌, Bool, true, false, cond, ◌&&◌, T, eqb, ltb, leb, List, [], ◌∷◌, length, get_or, set, is_some, Some, None, Option, sym, refl, ap, ◌∙◌, ap₂, ⊎_elim, le_trans, mul-le-mul, add_comm, zero-add, one-add, arith, le→leb, leb→le, get_or-set_other, get_or-set_same}
 use mathlib.Core.Path.{fun_ext}
-use mathlib.Core.List.{Memᴰ}
 use lib.Dec.{eqb-zero-suc, eqb-suc-zero, eqb-suc-suc}
 use Rattle.std.proofs.lemmas.Bool.{cases_eq, cases_lt, false≢true, lt-ltb, le-ltb}
 use Rattle.rules.specs.declared.item_type.ItemType.{ItemType}
@@ -10,7 +9,7 @@ use Rattle.rules.specs.Trees.{State}
 use Rattle.sums.specs.States.{all_failed, put, states, keep}
 use Rattle.plan.specs.Plans.{Structure}
 use Rattle.plan.specs.Sets.{range, count}
-use Rattle.count.specs.Counts.{is_type, is_of_type, places, places_of, working_of, in_cell, total_states, working_states}
+use Rattle.count.specs.Counts.{is_type, is_of_type, places, places_of, in_cell, total_states, working_states}
 use Rattle.count.specs.Laws.{choose, choices}
 use Rattle.count.proofs.Over.{over, Distinct, put_same, count_states, over_agree, over_zero}
 use Rattle.count.proofs.Lists.{places_distinct}

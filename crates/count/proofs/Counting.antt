@@ -1,14 +1,14 @@
 -- The loop of the long count, state by state.
-use Rattle.std.proofs.Common.{◌≡◌, ℕ, zero, suc, ◌+◌, ◌-◌, ◌*◌, ◌^◌, ◌<◌, ◌≤◌, Bool, true, false, cond, ◌&&◌, ◌||◌, eqb, ◌⊎◌, List, [], ◌∷◌, length, get_or, set, replicate, is_some, Some, None, Option, sym, refl, ap, ◌∙◌, subst, ap₂, inl, inr, ⊎_elim, add-zero, zero-add, arith, get_or-set_other, get_or-set_same, MatchOption}
+use Rattle.std.proofs.Common.{◌≡◌, ℕ, suc, ◌+◌, ◌*◌, ◌^◌, ◌<◌, ◌≤◌, Bool, true, false, cond, ◌&&◌, ◌||◌, eqb, List, [], ◌∷◌, length, get_or, set, replicate, is_some, Some, None, Option, sym, refl, ap, ◌∙◌, ap₂, ⊎_elim, add-zero, zero-add, arith, get_or-set_other, get_or-set_same, MatchOption}
 use mathlib.Core.Path.{fun_ext}
 use lib.Bits.{bit_and, and_le_r}
 use lib.ListN.{get_or-replicate}
-use Rattle.std.proofs.lemmas.Bool.{cases_eq, cases_lt, cases_Bool, eqb-true, eqb-false, eq-eqb, ne_eqb, and_from, and_parts}
+use Rattle.std.proofs.lemmas.Bool.{cases_eq, cases_lt, cases_Bool, eqb-true, eq-eqb, ne_eqb, and_from, and_parts}
 use Rattle.rules.specs.declared.item_type.ItemType.{ItemType}
 use Rattle.rules.specs.declared.item_type.ItemType.TheVariants.{One, Two, Three}
 use Rattle.rules.specs.Rules.{Allowed}
 use Rattle.rules.specs.Trees.{State}
-use Rattle.sums.specs.States.{all_failed, put, states, keep}
+use Rattle.sums.specs.States.{all_failed, keep}
 use Rattle.plan.specs.declared.place_set.PlaceSet.{PlaceSet}
 use Rattle.plan.specs.Plans.{Structure}
 use Rattle.plan.specs.Sets.{bit, members, range, count, size, both, Within, NextBelow}
@@ -19,7 +19,7 @@ use Rattle.count.specs.ByType.{Sorted, some_type}
 use Rattle.count.specs.Counts.{is_type, is_of_type, places, places_of, working_of, in_cell, working_states, count_rules}
 use Rattle.count.proofs.Over.{over, count_states}
 use Rattle.count.proofs.Lists.{size_working}
-use Rattle.count.proofs.Subsets.{sum_below, sum_none, sum_more, sum_gap, inside, inner, subset_sum}
+use Rattle.count.proofs.Subsets.{sum_below, sum_none, sum_more, sum_gap, inner, subset_sum}
 use Rattle.count.proofs.Choosing.{working_bounded}
 
 pub few_from : (p : Structure) → Allowed (count_rules p) → (t : ItemType) → places_of p t ≤ 7

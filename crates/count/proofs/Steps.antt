@@ -1,16 +1,16 @@
 -- The step-up inequality.
-use Rattle.std.proofs.Common.{◌≡◌, ℕ, zero, suc, ◌+◌, ◌-◌, ◌*◌, ◌<◌, ◌≤◌, Bool, true, false, cond, ◌&&◌, eqb, ◌⊎◌, List, [], ◌∷◌, Some, None, Option, sym, refl, ap, ◌∙◌, ap₂, inl, inr, ⊎_elim, add-zero, zero-add, add-one, one-add, arith}
+use Rattle.std.proofs.Common.{◌≡◌, ℕ, zero, suc, ◌+◌, ◌-◌, ◌*◌, ◌≤◌, Bool, true, false, cond, ◌&&◌, eqb, List, [], ◌∷◌, Some, None, Option, sym, refl, ap, ◌∙◌, ap₂, ⊎_elim, zero-add, add-one, one-add, arith}
 use mathlib.Core.Path.{fun_ext}
 use mathlib.Core.List.{Memᴰ}
 use lib.Dec.{eqb-zero-suc, eqb-suc-zero, eqb-suc-suc}
-use Rattle.std.proofs.lemmas.Bool.{cases_lt, true≢false, false≢true}
+use Rattle.std.proofs.lemmas.Bool.{cases_lt, false≢true}
 use Rattle.rules.specs.declared.item_type.ItemType.{ItemType}
 use Rattle.rules.specs.declared.item_type.ItemType.TheVariants.{One, Two, Three}
 use Rattle.rules.specs.Trees.{State}
 use Rattle.sums.specs.States.{all_failed, put, states}
 use Rattle.plan.specs.Plans.{Structure, LawfulPlan}
 use Rattle.plan.specs.Sets.{count}
-use Rattle.count.specs.Counts.{is_type, is_of_type, places, places_of, working_of, in_cell, working_states}
+use Rattle.count.specs.Counts.{is_type, is_of_type, places, working_of, working_states}
 use Rattle.count.specs.Laws.{StepUp}
 use Rattle.count.proofs.Over.{over, Distinct, put_same, put_other, put_put, put_swap, count_states, over_agree, over_zero}
 use Rattle.count.proofs.Lists.{places_distinct}

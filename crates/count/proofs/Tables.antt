@@ -1,11 +1,11 @@
 -- What holds of a table, from what holds of the counts.
-use Rattle.std.proofs.Common.{◌≡◌, ℕ, ◌+◌, ◌<◌, ◌≤◌, List, sym, ◌∙◌, arith}
+use Rattle.std.proofs.Common.{ℕ, ◌+◌, ◌≤◌, List, sym, ◌∙◌, arith}
 use Rattle.rules.specs.declared.item_type.ItemType.{ItemType}
 use Rattle.rules.specs.declared.item_type.ItemType.TheVariants.{One, Two, Three}
 use Rattle.rules.specs.Rules.{Allowed}
 use Rattle.plan.specs.Plans.{Structure, LawfulPlan}
 use Rattle.cells.specs.Cells.{cell}
-use Rattle.count.specs.Counts.{places_of, total_states, working_states, count_rules}
+use Rattle.count.specs.Counts.{places_of, working_states, count_rules}
 use Rattle.count.specs.Laws.{Holds, AtMost, StepUp, choices, LongCounted, Totalled}
 use Rattle.count.proofs.Choosing.{total_choices, choices_bounded, working_bounded}
 use Rattle.count.proofs.Counting.{few_from}

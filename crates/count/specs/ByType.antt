@@ -1,5 +1,5 @@
 -- The places of a plan, sorted by type.
-use Rattle.std.specs.Prelude.{◌≡◌, ◌||◌}
+use Rattle.std.specs.Prelude.{◌≡◌}
 use Rattle.rules.specs.declared.item_type.ItemType.TheVariants.{One, Two, Three}
 use Rattle.rules.specs.Trees.{State}
 use Rattle.plan.specs.Plans.{Structure}

@@ -103,18 +103,18 @@ module _ (h : History) (l : Lawful h) where
             ∙ ap (λ x. numbers (one_if x (record { value = m }) (Some t.0) ++ [])) e
         at false e = part (standing h m) (is_built_in h m) e
 
-    rising-picked : (m : ℕ) → numbers (picked is (listing (line_of h) m)) ≡ rising_upto m is
-    rising-picked zero = refl
-    rising-picked (suc m) =
+    rising_picked : (m : ℕ) → numbers (picked is (listing (line_of h) m)) ≡ rising_upto m is
+    rising_picked zero = refl
+    rising_picked (suc m) =
         ap numbers (picked_append is (listing (line_of h) m) (option_to_list (line_of h (suc m))))
         ∙ map-append (λ (i : TypedItem). i.number.value) (picked is (listing (line_of h) m)) (picked is (option_to_list (line_of h (suc m))))
-        ∙ ap₂ ◌++◌ (rising-picked m) (one_number (suc m))
+        ∙ ap₂ ◌++◌ (rising_picked m) (one_number (suc m))
 
-    typed-picked : (m : ℕ) → Typed h (picked is (listing (line_of h) m))
-    typed-picked zero = tt
-    typed-picked (suc m) =
+    typed_picked : (m : ℕ) → Typed h (picked is (listing (line_of h) m))
+    typed_picked zero = tt
+    typed_picked (suc m) =
         subst (Typed h) (sym (picked_append is (listing (line_of h) m) (option_to_list (line_of h (suc m)))))
-        (typed_append h (picked is (listing (line_of h) m)) (picked is (option_to_list (line_of h (suc m)))) (typed-picked m) (at (standing h (suc m)) refl (has is (suc m)) refl))
+        (typed_append h (picked is (listing (line_of h) m)) (picked is (option_to_list (line_of h (suc m)))) (typed_picked m) (at (standing h (suc m)) refl (has is (suc m)) refl))
       where
         one : (x : Bool) (t : ItemType) → standing h (suc m) ≡ Some (Item t) → Typed h (one_if x (record { value = suc m }) (Some t) ++ [])
         one true t e = (ap type_at e, tt)
@@ -129,21 +129,21 @@ module _ (h : History) (l : Lawful h) where
         at (Some (Item t)) e x f = one (has is (suc m)) t e
         at (Some (Block k a b)) e x f = none (has is (suc m))
 
-    pub beneath-picked : ItemsBeneath h n (picked is (lines_of h))
-    beneath-picked =
-        let up = rising-picked (given h) in
+    pub beneath_picked : ItemsBeneath h n (picked is (lines_of h))
+    beneath_picked =
+        let up = rising_picked (given h) in
         record {
           rising = up;
-          types = fun_ext (λ p. types_read (picked is (lines_of h)) (typed-picked (given h)) p ∙ ap (λ ns. type_in h (get_or ns p 0)) up);
+          types = fun_ext (λ p. types_read (picked is (lines_of h)) (typed_picked (given h)) p ∙ ap (λ ns. type_in h (get_or ns p 0)) up);
         }
 
     -- there are at most 16
-    pub few-picked : length (picked is (lines_of h)) ≤ 16
-    few-picked =
+    pub few_picked : length (picked is (lines_of h)) ≤ 16
+    few_picked =
         omega (
           arith,
           length-map (picked is (lines_of h)) (λ (i : TypedItem). i.number.value),
-          ap length (rising-picked (given h)),
+          ap length (rising_picked (given h)),
           listing_length (λ i. cond (has is i) (Some i) None) (given h),
           how_many_fewer (λ i. is_some (cond (has is i) (Some i) None)) (λ i. is_item (standing h i)) (given h) (λ i e. ap is_item (stands i (held (has is i) i e)).1),
           few_items h l,

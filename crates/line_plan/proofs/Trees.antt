@@ -66,24 +66,24 @@ module _ (h : History) (l : Lawful h) where
       w
 
   module _ (test : Tree → Bool) where
-    pub stands-none : (n : ℕ) → standing h n ≡ None → stands_and h n test ≡ false
-    stands-none n e = ap (λ (p : Option Part). is_some p && test (tree_of h n)) e
+    pub stands_none : (n : ℕ) → standing h n ≡ None → stands_and h n test ≡ false
+    stands_none n e = ap (λ (p : Option Part). is_some p && test (tree_of h n)) e
 
-    pub stands-tree : (n : ℕ) → is_some (standing h n) ≡ true → stands_and h n test ≡ test (tree_of h n)
-    stands-tree n e = ap (λ x. x && test (tree_of h n)) e
+    pub stands_tree : (n : ℕ) → is_some (standing h n) ≡ true → stands_and h n test ≡ test (tree_of h n)
+    stands_tree n e = ap (λ x. x && test (tree_of h n)) e
 
-    pub stands-item : (n : ℕ) (t : ItemType) → standing h n ≡ Some (Item t) → stands_and h n test ≡ test (item n)
-    stands-item n t e = stands-tree n (ap is_some e) ∙ ap test (tree_item h l n t e)
+    pub stands_item : (n : ℕ) (t : ItemType) → standing h n ≡ Some (Item t) → stands_and h n test ≡ test (item n)
+    stands_item n t e = stands_tree n (ap is_some e) ∙ ap test (tree_item h l n t e)
 
     -- a test that goes by the two lines of a block
-    pub both-lines : (op : Kind → Bool → Bool → Bool) → ((k : Kind) (x y : Tree) → test (block k x y) ≡ op k (test x) (test y))
+    pub both_lines : (op : Kind → Bool → Bool → Bool) → ((k : Kind) (x y : Tree) → test (block k x y) ≡ op k (test x) (test y))
         → (n : ℕ) (k : Kind) (a b : PartNumber) → standing h n ≡ Some (Block k a b) → (p q : Bool) → p ≡ stands_and h a.value test → q ≡ stands_and h b.value test
         → op k p q ≡ stands_and h n test
-    both-lines op joins n k a b e p q ep eq =
+    both_lines op joins n k a b e p q ep eq =
         let on = lines_stand h l n k a b e in
-        ap₂ (op k) (ep ∙ stands-tree a.value on.0) (eq ∙ stands-tree b.value on.1)
+        ap₂ (op k) (ep ∙ stands_tree a.value on.0) (eq ∙ stands_tree b.value on.1)
         ∙ sym (joins k (tree_of h a.value) (tree_of h b.value))
-        ∙ sym (stands-tree n (ap is_some e) ∙ ap test (tree_block h l n k a b e))
+        ∙ sym (stands_tree n (ap is_some e) ∙ ap test (tree_block h l n k a b e))
 
   module _ (s : State) where
     abbrev runs : Tree → Bool
@@ -98,42 +98,42 @@ module _ (h : History) (l : Lawful h) where
     other m n None v w ne = refl
     other m n (Some q) v w ne = put_other m n ne (part_works s w m q) w
 
-    next-other : (m n : ℕ) → (suc m ≡ n → ⊥) → upto (suc m) n ≡ upto m n
-    next-other m n ne =
+    next_other : (m n : ℕ) → (suc m ≡ n → ⊥) → upto (suc m) n ≡ upto m n
+    next_other m n ne =
         ap (λ (w : State). w n) (lines_append s (listing (line_of h) m) (option_to_list (line_of h (suc m))) all_failed)
         ∙ other (suc m) n (standing h (suc m)) (is_built_in h (suc m)) (upto m) ne
 
     above : (m n : ℕ) → m < n → upto m n ≡ false
     above zero n lt = refl
-    above (suc m) n lt = next-other m n (λ e. omega arith) ∙ above m n (omega arith)
+    above (suc m) n lt = next_other m n (λ e. omega arith) ∙ above m n (omega arith)
 
     below : (m n : ℕ) → n ≤ m → upto m n ≡ stands_and h n runs
-    below zero n le = let e : n ≡ 0 = omega arith in sym (stands-none runs n (ap (standing h) e ∙ (sound h l).at_zero))
+    below zero n le = let e : n ≡ 0 = omega arith in sym (stands_none runs n (ap (standing h) e ∙ (sound h l).at_zero))
     below (suc m) n le =
         ⊎_elim
         (λ (e : suc m ≡ n). ap (upto (suc m)) (sym e)
         ∙ ap (λ (w : State). w (suc m)) (lines_append s (listing (line_of h) m) (option_to_list (line_of h (suc m))) all_failed)
         ∙ at (standing h (suc m)) refl (below m)
         ∙ ap (λ i. stands_and h i runs) e)
-        (λ ne. next-other m n ne ∙ below m n (omega arith))
+        (λ ne. next_other m n ne ∙ below m n (omega arith))
         (cases_eq (suc m) n)
       where
         at : (p : Option Part) → standing h (suc m) ≡ p → ((i : ℕ) → i ≤ m → upto m i ≡ stands_and h i runs) → lines_work s (upto m) (option_to_list (option_map (λ q. line (suc m) q (is_built_in h (suc m))) p)) (suc m) ≡ stands_and h (suc m) runs
-        at None e before = above m (suc m) (omega arith) ∙ sym (stands-none runs (suc m) e)
-        at (Some (Item t)) e before = put_same (suc m) (s (suc m)) (upto m) ∙ sym (stands-item runs (suc m) t e)
+        at None e before = above m (suc m) (omega arith) ∙ sym (stands_none runs (suc m) e)
+        at (Some (Item t)) e before = put_same (suc m) (s (suc m)) (upto m) ∙ sym (stands_item runs (suc m) t e)
         at (Some (Block k a b)) e before =
             let low = lines_low h l (suc m) k a b e in
             put_same (suc m) (block_works k (upto m a.value) (upto m b.value)) (upto m)
-            ∙ both-lines runs block_works (λ _ _ _. refl) (suc m) k a b e (upto m a.value) (upto m b.value)
+            ∙ both_lines runs block_works (λ _ _ _. refl) (suc m) k a b e (upto m a.value) (upto m b.value)
             (before a.value (omega (arith, low.0))) (before b.value (omega (arith, low.1)))
 
     -- a line of the book works if it stands and its tree works
-    pub line-runs : (n : ℕ) → lines_work s all_failed (lines_of h) n ≡ stands_and h n runs
-    line-runs n = ⊎_elim (λ lt. above (given h) n lt ∙ sym (stands-none runs n ((sound h l).above n lt))) (below (given h) n) (cases_lt (given h) n)
+    pub line_runs : (n : ℕ) → lines_work s all_failed (lines_of h) n ≡ stands_and h n runs
+    line_runs n = ⊎_elim (λ lt. above (given h) n lt ∙ sym (stands_none runs n ((sound h l).above n lt))) (below (given h) n) (cases_lt (given h) n)
 
   -- the plan of a standing line
   pub plan_is : (n : ℕ) → is_some (standing h n) ≡ true → (is : List TypedItem) → ItemsBeneath h n is → plan_over (lines_of h) n is ≡ plan_of_line h n
   plan_is n on is b = ap₂ (λ t w. record { types = t; works = w }) b.types
-      (fun_ext (λ q. line-runs (state_of is q) n ∙ stands-tree (runs (state_of is q)) n on ∙ works_agree (tree_of h n) (state_of is q) (placed (rising_in h n) q)
+      (fun_ext (λ q. line_runs (state_of is q) n ∙ stands_tree (runs (state_of is q)) n on ∙ works_agree (tree_of h n) (state_of is q) (placed (rising_in h n) q)
       (λ i m. ap (λ ns. has ns i && placed ns q i) b.rising
       ∙ ap (λ x. x && placed (rising_in h n) q i) (has_to (rising_in h n) i (((places_stand_lem (numbers_semiring (λ _. 0) (λ _. 0)) h l n on).alike i).1 m)))))

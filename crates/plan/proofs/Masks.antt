@@ -1,5 +1,5 @@
 -- The bits of masks.
-use Rattle.std.proofs.Common.{◌≡◌, ℕ, zero, suc, ◌+◌, ◌-◌, ◌*◌, ◌/◌, ◌%◌, ◌^◌, ◌<◌, ◌≤◌, min, max, Bool, true, false, cond, not, ◌&&◌, ◌||◌, eqb, ltb, ◌⊎◌, List, [], ◌∷◌, map, sym, refl, ap, ◌∙◌, subst, ap₂, inl, inr, ⊎_elim, pow-suc, zero-add, add-one, one-add, arith}
+use Rattle.std.proofs.Common.{◌≡◌, ℕ, zero, suc, ◌+◌, ◌-◌, ◌*◌, ◌/◌, ◌%◌, ◌^◌, ◌<◌, ◌≤◌, Bool, true, false, cond, not, ◌&&◌, ◌||◌, eqb, ltb, List, [], ◌∷◌, map, sym, refl, ap, ◌∙◌, ap₂, ⊎_elim, pow-suc, one-add, arith}
 use mathlib.Core.Path.{fun_ext}
 use lib.Bits.{bit_and, bit_or, and_step, and_le_l, and_shr, and_mod, or_shr, or_mod, and_mask}
 use lib.Count.{ones, ones_step}
@@ -9,7 +9,7 @@ use Rattle.std.proofs.lemmas.Bool.{cases_lt, cases_Bool, lt-ltb, le-ltb, eqb-tru
 use Rattle.rules.specs.Trees.{State}
 use Rattle.sums.specs.States.{put}
 use Rattle.plan.specs.declared.place_set.PlaceSet.{PlaceSet}
-use Rattle.plan.specs.Sets.{bit, adding, either, both, less, others, range, count, size, members, Within, NextBelow}
+use Rattle.plan.specs.Sets.{bit, adding, either, both, less, others, range, count, members, Within, NextBelow}
 
 pub bit_zero : (m : ℕ) → bit m 0 ≡ eqb (m % 2) 1
 bit_zero m = let e : m / 1 ≡ m = omega arith in ap (λ n. eqb (n % 2) 1) e

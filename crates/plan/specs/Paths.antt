@@ -1,5 +1,5 @@
 -- Path lists: which are refused, and in which states one works.
-use Rattle.std.specs.Prelude.{◌≡◌, ℕ, zero, suc, ◌<◌, Bool, true, false, not, ◌&&◌, ◌||◌, List, [], ◌∷◌, ◌++◌, length, is_some, Some, None, Option, slice_index}
+use Rattle.std.specs.Prelude.{◌≡◌, ℕ, zero, suc, ◌<◌, Bool, true, false, not, ◌&&◌, ◌||◌, List, [], ◌∷◌, ◌++◌, length, is_some, None, Option, slice_index}
 use Rattle.rules.specs.declared.item_type.ItemType.{ItemType}
 use Rattle.rules.specs.declared.refusal.Refusal.TheVariants.{UnknownType, NoPath, EmptyPath, EmptyPlace, TooManyPaths}
 use Rattle.rules.specs.Rules.{Rule, ◌when◌}

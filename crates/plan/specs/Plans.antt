@@ -1,5 +1,5 @@
 -- What a plan means, and the laws that every plan keeps.
-use Rattle.std.specs.Prelude.{◌≡◌, ℕ, ◌<◌, ◌≤◌, Bool, true, false, not, List, [], ◌∷◌, Some, None, Option, ◌≢◌}
+use Rattle.std.specs.Prelude.{◌≡◌, ℕ, ◌<◌, ◌≤◌, Bool, true, false, not, List, [], ◌∷◌, None, Option, ◌≢◌}
 use Rattle.rules.specs.declared.item_type.ItemType.{ItemType}
 use Rattle.rules.specs.declared.refusal.Refusal.TheVariants.{NoSuchPlace}
 use Rattle.rules.specs.Rules.{Rule, ◌when◌}

@@ -1,5 +1,5 @@
 -- What a survey leaves at the place of the named line.
-use Rattle.std.proofs.Common.{◌≡◌, ℕ, ◌<◌, true, List, length, get_or, drop, is_some, Some, None, Ok, Option, refl, ap, ◌∙◌, ap₂, arith}
+use Rattle.std.proofs.Common.{◌≡◌, ℕ, ◌<◌, true, List, length, drop, is_some, Some, None, Ok, Option, refl, ap, ◌∙◌, ap₂, arith}
 use Rattle.std.specs.List.{slice_get}
 use Rattle.std.proofs.lemmas.List.{get_or-map, get_or_append_left, length-map, length-append}
 use Rattle.std.proofs.lemmas.Option.{slice_get-get_or}

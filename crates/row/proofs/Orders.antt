@@ -7,14 +7,13 @@ use Rattle.rules.specs.declared.item_type.ItemType.TheVariants.{One, Two, Three}
 use Rattle.rules.specs.History.{History, standing}
 use Rattle.rules.specs.Ruled.{Lawful}
 use Rattle.rules.specs.Trees.{items, tree_of, type_in}
-use Rattle.sums.specs.ByType.{is_type}
 use Rattle.sums.specs.Sums.{working_sum}
 use Rattle.cells.specs.Cells.{cell}
 use Rattle.cells.specs.declared.table.CellTable.{CellTable}
 use Rattle.signature.specs.Signature.{signature}
 use Rattle.plan.specs.Plans.{Structure}
-use Rattle.plan.specs.LinePlans.{line-plan}
-use Rattle.count.specs.Counts.{places_of, working_states}
+use Rattle.plan.specs.LinePlans.{plan_of_line}
+use Rattle.count.specs.Counts.{is_type, places_of, working_states}
 use Rattle.count.specs.Laws.{LongCounted}
 use Rattle.count.proofs.Counting.{few_from}
 use Rattle.agreement.specs.Agreement.{WaysAgree}
@@ -66,7 +65,7 @@ module _ (x : OneTypeLine) (o : Orderly x) (row : List ℕ) (long : length row �
 module _ (h : History) (lawful : Lawful h) (n : ℕ) (on : is_some (standing h n) ≡ true) (x : OneTypeLine) (all : AllOfType h n x.item_type) (many : x.items ≡ items_beneath h n)
     (sum : x.sum ≡ working_sum signature (type_in h) (tree_of h n)) where
   abbrev plan : Structure
-  plan = line-plan h n
+  plan = plan_of_line h n
 
   ways : WaysAgree h n
   ways = ways_agree_lem h lawful n on

@@ -1,5 +1,5 @@
 -- The types of the items beneath a line, from those beneath its two lines.
-use Rattle.std.proofs.Common.{◌≡◌, ℕ, Bool, true, false, cond, eqb, List, [], ◌∷◌, length, Some, None, Option, sym, refl, ap, ◌∙◌, subst, ⊎_elim, arith}
+use Rattle.std.proofs.Common.{◌≡◌, ℕ, Bool, true, cond, List, [], ◌∷◌, length, Some, None, Option, sym, refl, ap, ◌∙◌, subst, ⊎_elim, arith}
 use mathlib.Core.List.Memᴰ
 use Rattle.std.proofs.lemmas.Bool.{cases_Bool, eqb-true, eqb-false, eq-eqb, cond-true, cond-false}
 use Rattle.rules.specs.declared.item_type.ItemType.{ItemType}
@@ -12,9 +12,9 @@ use Rattle.rules.specs.History.{History, standing}
 use Rattle.rules.specs.Ruled.{Lawful}
 use Rattle.rules.specs.Trees.{Tree, item, block, items, tree_of, type_at, type_in}
 use Rattle.sums.specs.Members.{◌∈◌}
-use Rattle.sums.specs.States.{count}
-use Rattle.sums.specs.ByType.{is_type}
 use Rattle.sums.proofs.Forest.{tree_item, tree_block}
+use Rattle.plan.specs.Sets.{count}
+use Rattle.count.specs.Counts.{is_type}
 use Rattle.row.specs.Rows.{Mixed}
 use Rattle.row.specs.Steps.{AllOfType, OnlyType, common_type}
 

@@ -11,7 +11,7 @@ use Rattle.rules.specs.Trees.{items, tree_of, type_in}
 use Rattle.sums.specs.Members.{◌∈◌}
 use Rattle.cells.specs.declared.table.CellTable.{CellTable}
 use Rattle.signature.specs.Signature.{signature}
-use Rattle.plan.specs.LinePlans.{line-plan}
+use Rattle.plan.specs.LinePlans.{plan_of_line}
 use Rattle.count.specs.Counts.{working_states}
 use Rattle.book.specs.declared.book.Book.{Book}
 use Rattle.book.specs.Keeps.{Keeps}
@@ -31,7 +31,7 @@ of_each_type Three f l = f 0 0 l
 
 -- N(l): the number of states with l of the items beneath the line working in which it works
 abbrev pub working_with : History → ℕ → ItemType → ℕ → ℕ
-working_with h n t l = of_each_type t (working_states (line-plan h n)) l
+working_with h n t l = of_each_type t (working_states (plan_of_line h n)) l
 
 -- how many items lie beneath the line
 abbrev pub items_beneath : History → ℕ → ℕ

@@ -1,5 +1,5 @@
 ghost use Rattle.std.specs.Prelude.{◌≡◌, ℕ, ◌<◌, ◌≤◌, length, slice_index};
-ghost use Rattle.row.specs.Rows.{factorial as n-factorial};
+ghost use Rattle.row.specs.Rows.{factorial as n_factorial};
 ghost use Rattle.row.specs.Steps.{states_with, orders_with, stops_at, Orderly};
 
 use cells::table::CellTable;
@@ -70,7 +70,7 @@ impl OneTypeLine {
 // n!, up to 7!.
 fn factorial(n: usize) -> u32
     requires { n ≤ 7 }
-    ensures value { result ≡ n-factorial n }
+    ensures value { result ≡ n_factorial n }
     ensures small { result ≤ 5040 }
 {
     match n {

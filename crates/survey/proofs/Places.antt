@@ -1,32 +1,31 @@
 -- The places of standing lines, and what a bench holds there.
-use Rattle.std.proofs.Common.{◌≡◌, ℕ, zero, suc, ◌+◌, ◌<◌, ◌≤◌, Bool, true, false, cond, ◌⊎◌, List, [], ◌∷◌, ◌++◌, map, length, get_or, take, drop, set, is_some, Some, None, vec_items, Option, sym, refl, ap, ◌∙◌, subst, ap₂, inl, inr, ⊎_elim, arith}
+use Rattle.std.proofs.Common.{◌≡◌, ℕ, zero, suc, ◌+◌, ◌<◌, ◌≤◌, Bool, true, false, cond, List, [], ◌∷◌, ◌++◌, length, get_or, take, drop, set, is_some, Some, None, Option, sym, refl, ap, ◌∙◌, subst, ap₂, ⊎_elim, arith}
 use mathlib.Core.Logic.{∥∥₁_elim}
 use Rattle.std.specs.Option.{option_map}
 use Rattle.std.proofs.lemmas.List.{get_or-map, get_or-take, length-map, length-append, take_more, take_more_set, take_all, take-append-drop, drop-set-lt, drop-drop}
 use Rattle.std.proofs.lemmas.Bool.{both_ways, cond-true}
 use Rattle.rules.specs.declared.item_type.ItemType.{ItemType}
 use Rattle.rules.specs.declared.kind.Kind.{Kind}
-use Rattle.rules.specs.declared.kind.Kind.TheVariants.{Series, Parallel}
 use Rattle.rules.specs.declared.line.Line.{Line}
 use Rattle.rules.specs.declared.line.Part.{Part}
 use Rattle.rules.specs.declared.line.Part.TheVariants.{Item, Block}
 use Rattle.rules.specs.declared.part_number.PartNumber.{PartNumber}
 use Rattle.rules.specs.declared.refusal.Refusal.{Refusal}
 use Rattle.rules.specs.Tables.{no_line, At}
-use Rattle.rules.specs.History.{History, given, standing, is_built_in, how_many, line_of, lines_of, place_in}
-use Rattle.rules.specs.Rules.{Allowed, Refused}
+use Rattle.rules.specs.History.{History, given, standing, is_built_in, line_of, lines_of, place_in}
+use Rattle.rules.specs.Rules.{Refused}
 use Rattle.rules.specs.Ruled.{naming, Lawful}
-use Rattle.rules.specs.Trees.{Tree, block, items, tree_of, type_at, type_in}
+use Rattle.rules.specs.Trees.{Tree, items, tree_of, type_at, type_in}
 use Rattle.rules.proofs.Counting.{how_many_same, how_many_more_numbers}
 use Rattle.rules.proofs.Listings.{listing_has, listing-place}
 use Rattle.rules.proofs.Sound.{sound, some_low, some_positive}
-use Rattle.rules.proofs.Tables.{line, laid, line_there, part_there, laid_number}
+use Rattle.rules.proofs.Tables.{line, part_there, laid_number}
 use Rattle.sums.specs.Semiring.{Meaning, Semiring}
 use Rattle.sums.specs.Sums.{working_sum, failing_sum}
 use Rattle.sums.specs.Members.{Once}
-use Rattle.sums.specs.Blocks.{block_working, block_failing, BlockSumsStand}
+use Rattle.sums.specs.Blocks.{block_working, block_failing}
 use Rattle.sums.proofs.Blocks.{block_sums_stand_lem}
-use Rattle.sums.proofs.Forest.{tree_item, tree_block, tree_once, lines_stand}
+use Rattle.sums.proofs.Forest.{tree_item, tree_block, tree_once}
 use Rattle.book.specs.declared.book.Book.{Book}
 use Rattle.book.specs.Keeps.{Keeps}
 use Rattle.survey.specs.declared.bench.Sums.{Sums}

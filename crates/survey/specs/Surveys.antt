@@ -1,7 +1,6 @@
 -- What a survey answers, and leaves on its bench.
 use Rattle.std.specs.Prelude.{◌≡◌, ℕ, ◌<◌, true, List, [], ◌∷◌, ◌++◌, map, length, drop, is_some, Result, MatchResult, slice_index_or}
 use Rattle.rules.specs.declared.line.Line.{Line}
-use Rattle.rules.specs.declared.part_number.PartNumber.{PartNumber}
 use Rattle.rules.specs.declared.refusal.Refusal.{Refusal}
 use Rattle.rules.specs.declared.refusal.Refusal.TheVariants.{BenchTooShort}
 use Rattle.rules.specs.History.{History, standing, lines_standing, lines_of, place_in}

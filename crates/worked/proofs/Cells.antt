@@ -1,16 +1,19 @@
 -- The cells of the examples, state by state.
-use Rattle.std.proofs.Common.{◌≡◌, ℕ, suc, ◌+◌, ◌*◌, ◌%◌, ◌≤◌, Bool, true, false, cond, List, [], ◌∷◌, length, sym, ap, ◌∙◌, arith, lit≤}
+use Rattle.std.proofs.Common.{◌≡◌, ℕ, suc, ◌+◌, ◌*◌, ◌%◌, ◌≤◌, Bool, true, false, cond, ◌&&◌, List, [], ◌∷◌, length, sym, ap, ◌∙◌, arith, lit≤}
 use Rattle.rules.specs.Rules.{Allowed}
-use Rattle.rules.specs.Trees.{tree_of, type_in}
-use Rattle.sums.specs.States.{count}
+use Rattle.rules.specs.Trees.{State, items, works, tree_of, type_in}
+use Rattle.sums.specs.States.{all_failed, states}
 use Rattle.cells.specs.Tables.{table_of}
 use Rattle.cells.proofs.Tables.{cell_of, same_cells}
 use Rattle.signature.specs.Polynomials.{one_at}
+use Rattle.signature.specs.Counted.{has}
 use Rattle.signature.specs.Signature.{signature}
 use Rattle.signature.proofs.Counted.{signature_stands_lem}
 use Rattle.plan.specs.Plans.{Structure, locked_out, mirrored}
-use Rattle.plan.specs.LinePlans.{line-plan}
+use Rattle.plan.specs.Sets.{count}
+use Rattle.plan.specs.LinePlans.{plan_of_line}
 use Rattle.count.specs.Counts.{places, is_of_type, count_rules}
+use Rattle.agreement.proofs.Bridge.{count_keep}
 use Rattle.survey.specs.Surveys.{sums_of}
 use Rattle.worked.specs.Worked.{HasCells, example, example_cells, example_plan}
 
@@ -35,9 +38,9 @@ count_at_most p (x ∷ xs) = at (p x) (count_at_most p xs)
 pub taken : (p : Structure) → length (places p) ≤ 7 → Allowed (count_rules p)
 taken p few = (λ many. omega (arith, count_at_most (is_of_type p many.0) (places p), many.1), tt)
 
-pub line_counted : HasCells (line-plan example 5) example_cells
+pub line_counted : HasCells (plan_of_line example 5) example_cells
 unfolding places
-line_counted = (taken (line-plan example 5) (lit≤ tt), λ i a b c. eight a b c i)
+line_counted = (taken (plan_of_line example 5) (lit≤ tt), λ i a b c. eight a b c i)
 
 pub paths_counted : HasCells example_plan example_cells
 unfolding places
@@ -60,6 +63,8 @@ lockout_counted = (taken (locked_out 2 example_plan) (lit≤ tt), λ i a b c. so
 -- under the signature
 pub table : (sums_of signature example 5).working ≡ table_of example_cells
 table = same_cells (sums_of signature example 5).working (table_of example_cells) (λ a b c al bl cl.
-    (signature_stands_lem (type_in example) (tree_of example 5) a b c al bl cl).0
-    ∙ ap (λ n. n % 65536) (eight a b c)
+    let x = tree_of example 5 in
+    let passes : State → Bool = λ s. works x s && has (type_in example) (items x) a b c s in
+    (signature_stands_lem (type_in example) x a b c al bl cl).0
+    ∙ ap (λ n. n % 65536) (sym (count_keep passes (states (items x) all_failed)) ∙ eight a b c)
     ∙ sym (cell_of example_cells a b c al bl cl))

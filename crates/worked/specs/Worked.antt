@@ -23,10 +23,9 @@ use Rattle.cells.specs.Tables.{table_of}
 use Rattle.signature.specs.Polynomials.{Polynomial, one_at}
 use Rattle.signature.specs.Signature.{signature}
 use Rattle.plan.specs.declared.place_set.PlaceSet.{PlaceSet}
-use Rattle.plan.specs.Lockouts.{lockout_rules}
-use Rattle.plan.specs.Plans.{Structure, locked_out, mirrored}
+use Rattle.plan.specs.Plans.{Structure, locked_out, mirrored, lockout_rules}
 use Rattle.plan.specs.Paths.{plan_of_paths, path_list_rules}
-use Rattle.plan.specs.LinePlans.{line-plan}
+use Rattle.plan.specs.LinePlans.{plan_of_line}
 use Rattle.count.specs.Counts.{working_states, count_rules}
 use Rattle.survey.specs.Surveys.{sums_of, survey_rules}
 use Rattle.row.specs.Rows.{FailureRow, row_rules}
@@ -122,7 +121,7 @@ pub record WorkedExamples : Type 0 where
   -- its high is 1.
   pub survival_4 : (s : Shares) → Allowed (survival_rules example 4 s) → s.one ≡ 1 → SurvivalOf example 4 s 0 1
   -- The plan of line 5 has the example's cells too.
-  pub plan_5 : HasCells (line-plan example 5) example_cells
+  pub plan_5 : HasCells (plan_of_line example 5) example_cells
   -- PATH LIST. It is not refused, and has the example's cells.
   pub paths_allowed : Allowed (path_list_rules example_types example_paths)
   pub paths : HasCells example_plan example_cells

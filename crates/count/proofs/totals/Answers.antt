@@ -1,4 +1,4 @@
-use Rattle.std.proofs.Common.{◌≡◌, ℕ, ◌*◌, ◌≤◌, sym, ap, ◌∙◌, ap₂, arith}
+use Rattle.std.proofs.Common.{◌≡◌, ◌*◌, ap, ◌∙◌, ap₂, arith}
 use Rattle.rules.specs.declared.item_type.ItemType.TheVariants.{One, Two, Three}
 use Rattle.plan.specs.Sets.{size}
 use Rattle.cells.specs.Cells.{cell}

@@ -7,14 +7,14 @@ use Rattle.row.proofs.Benches.{named_stands}
 use Rattle.row.proofs.Orders.{orderly, row_filled}
 use Rattle.row.proofs.failure_row.Goals as goal
 
-pub failure-row-requires : goal.failure-row-requires
-failure-row-requires c =
+pub failure_row-requires : goal.failure_row-requires
+failure_row-requires c =
     let n = c.args.number.value in
     let book = c.args.book.now in
-    let x : OneTypeLine = record { sum = c.in-ok-sum.sum; item_type = c.in-ok-item-type.item_type; items = c.in-ok-item-type.items } in
+    let x : OneTypeLine = record { sum = c.in_ok-sum.sum; item_type = c.in_ok-item_type.item_type; items = c.in_ok-item_type.items } in
     let at : (h : History) → Keeps h book → Orderly x = λ h k.
-    let u = c.in-ok-item-type.ensures h k in
-    orderly h k.lawful n (named_stands (standing h n) u.0.1.0) x u.1.0 u.1.1 (c.in-ok-sum.ensures.answer.answer h k).1 in
+    let u = c.in_ok-item_type.ensures h k in
+    orderly h k.lawful n (named_stands (standing h n) u.0.1.0) x u.1.0 u.1.1 (c.in_ok-sum.ensures.answer.answer h k).1 in
     record {
       few = kept_bound book _ _ (λ h k. (at h k).few);
       rise = λ l lt. kept_bound book _ _ (λ h k. (at h k).rise l lt);
@@ -26,12 +26,12 @@ returns c = record {
   answer = record {
     answer = λ h k.
         let n = c.args.number.value in
-        let u = c.in-ok-item-type.ensures h k in
-        let s = c.in-ok-sum.ensures.answer.answer h k in (
+        let u = c.in_ok-item_type.ensures h k in
+        let s = c.in_ok-sum.ensures.answer.answer h k in (
           (u.0.0, (u.0.1.0, (u.0.1.1.0, (s.0.1.1.0, tt)))),
-          (c.in-ok-item-type.item_type, row_filled h k.lawful n (named_stands (standing h n) u.0.1.0) _ u.1.0 u.1.1 s.1 _ c.failure-row.ensures.long c.failure-row.ensures.each),
+          (c.in_ok-item_type.item_type, row_filled h k.lawful n (named_stands (standing h n) u.0.1.0) _ u.1.0 u.1.1 s.1 _ c.failure_row.ensures.long c.failure_row.ensures.each),
         );
-    left = c.in-ok-sum.ensures.answer.left;
+    left = c.in_ok-sum.ensures.answer.left;
   };
-  same = c.in-ok-sum.ensures.same;
+  same = c.in_ok-sum.ensures.same;
 }

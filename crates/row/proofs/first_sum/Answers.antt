@@ -10,14 +10,14 @@ use Rattle.row.proofs.first_sum.Goals as goal
 pub unreachable-requires : goal.unreachable-requires
 unreachable-requires c =
     from_kept c.args.book.now (λ h k.
-    let at = sums_there h c.args.book.now k _ _ _ _ c.in-ok-place.ensures.answer in
+    let at = sums_there h c.args.book.now k _ _ _ _ c.in_ok-place.ensures.answer in
     let none = sym at ∙ sym c.get.ensures ∙ c.in-None.is in
     let z : ◌≡◌ {A = ℕ} 0 1 = cc in
     omega arith)
 
 pub returns : goal.returns
 returns c =
-    let s = c.in-ok-place.ensures in
+    let s = c.in_ok-place.ensures in
     record {
       answer = record {
         answer = λ h k.

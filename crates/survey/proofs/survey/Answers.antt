@@ -1,7 +1,6 @@
-use Rattle.std.proofs.Common.{◌<◌, List, length, refl, ap, subst, inl, inr, ⊎_elim, arith}
+use Rattle.std.proofs.Common.{List, length, refl, ap, subst, inl, inr, ⊎_elim, arith}
 use Rattle.rules.specs.declared.line.Line.{Line}
 use Rattle.rules.specs.Tables.{At}
-use Rattle.rules.specs.History.{given}
 use Rattle.rules.proofs.Limits.{lines_length}
 use Rattle.std.proofs.lemmas.Bool.{cases_lt}
 use Rattle.survey.proofs.Places.{at_place}

@@ -1,4 +1,4 @@
-use Rattle.std.proofs.Common.{◌≡◌, ◌-◌, ◌<◌, ◌∙◌, arith, length-set}
+use Rattle.std.proofs.Common.{◌-◌, ◌∙◌, arith, length-set}
 use Rattle.count.proofs.Choosing.{choose_small, row_old, row_more}
 use Rattle.count.proofs.binomials.binomials.Goals as goal
 

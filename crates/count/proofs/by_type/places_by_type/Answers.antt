@@ -1,4 +1,4 @@
-use Rattle.std.proofs.Common.{◌≡◌, ◌<◌, ◌≤◌, refl, ap, ◌∙◌, inl, arith}
+use Rattle.std.proofs.Common.{◌≤◌, refl, ap, inl, arith}
 use Rattle.plan.specs.Sets.{size}
 use Rattle.rules.specs.declared.item_type.ItemType.{ItemType}
 use Rattle.rules.specs.declared.item_type.ItemType.TheVariants.{One, Two, Three}

@@ -1,9 +1,8 @@
-use Rattle.std.proofs.Common.{◌≡◌, ℕ, suc, ◌+◌, ◌*◌, ◌^◌, ◌<◌, ◌≤◌, length, get_or, set, Some, None, Option, sym, refl, ap, ◌∙◌, subst, arith, length-set, rules}
+use Rattle.std.proofs.Common.{◌≡◌, ℕ, ◌+◌, ◌^◌, ◌<◌, length, Some, sym, refl, ap, ◌∙◌, subst, arith, length-set, rules}
 use Rattle.rules.specs.declared.item_type.ItemType.TheVariants.{One, Two, Three}
-use Rattle.plan.specs.declared.place_set.PlaceSet.{PlaceSet}
 use Rattle.plan.specs.Sets.{members}
 use Rattle.cells.specs.Cells.{cell}
-use Rattle.count.specs.Counts.{working_of, working_states}
+use Rattle.count.specs.Counts.{working_of}
 use Rattle.count.proofs.Subsets.{inner}
 use Rattle.count.proofs.Counting.{few_from, counted, left, Part, to_come, left_all, left_more, part_more, part_whole, all_counted, cell_is, index, index_below, working_few, counts_one, counts_none, cell_room, falls, start}
 use Rattle.count.proofs.states.count_working_states.Given as given

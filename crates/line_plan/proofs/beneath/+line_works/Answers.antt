@@ -11,7 +11,7 @@ use Rattle.rules.specs.Trees.{State, Tree, works}
 use Rattle.plan.specs.Sets.{members}
 use Rattle.line_plan.specs.Items.{listed, state_of}
 use Rattle.line_plan.specs.Beneath.{stands_and}
-use Rattle.line_plan.proofs.Trees.{answered, lower, none_refused, stands-none, stands-item, both-lines}
+use Rattle.line_plan.proofs.Trees.{answered, lower, none_refused, stands_none, stands_item, both_lines}
 use Rattle.line_plan.proofs.beneath.+line_works.Goals as goal
 
 pub line_works-first-requires : goal.line_works-first-requires
@@ -28,12 +28,12 @@ runs s x = works x s
 
 -- an item that was asked about works as the state says
 item_runs : (h : History) → Lawful h → (s : State) (n : ℕ) (x : Line) (t : ItemType) → line_of h n ≡ Some x → x.part ≡ Item t → (r : Bool) → r ≡ s n → r ≡ stands_and h n (runs s)
-item_runs h l s n x t found is r e = e ∙ sym (stands-item h l (runs s) n t (answered h n x (Item t) found is))
+item_runs h l s n x t found is r e = e ∙ sym (stands_item h l (runs s) n t (answered h n x (Item t) found is))
 
 -- a block that was asked about works as its kind makes of its two lines
 block_runs : (h : History) → Lawful h → (s : State) (n : ℕ) (x : Line) (k : Kind) (a b : PartNumber) → line_of h n ≡ Some x → x.part ≡ Block k a b
     → (p q : Bool) → p ≡ stands_and h a.value (runs s) → q ≡ stands_and h b.value (runs s) → block_works k p q ≡ stands_and h n (runs s)
-block_runs h l s n x k a b found is = both-lines h l (runs s) block_works (λ _ _ _. refl) n k a b (answered h n x (Block k a b) found is)
+block_runs h l s n x k a b found is = both_lines h l (runs s) block_works (λ _ _ _. refl) n k a b (answered h n x (Block k a b) found is)
 
 pub returns-in-Item : goal.returns-in-Item
 returns-in-Item t c h k =
@@ -71,4 +71,4 @@ returns-else-first-2 t c h k =
 pub returns-in-Err : goal.returns-in-Err
 returns-in-Err t c h k =
     let s = state_of (listed c.args.items.now) (members c.args.state) in
-    sym (stands-none h k.lawful (runs s) _ (none_refused h k.lawful _ _ (c.in-Err.ensures h k)))
+    sym (stands_none h k.lawful (runs s) _ (none_refused h k.lawful _ _ (c.in-Err.ensures h k)))

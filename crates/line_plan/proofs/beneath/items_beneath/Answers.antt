@@ -10,14 +10,14 @@ use Rattle.line_plan.specs.declared.item_list.ItemList.{ItemList}
 use Rattle.line_plan.specs.declared.item_list.TypedItem.{TypedItem}
 use Rattle.line_plan.specs.Items.{listed}
 use Rattle.line_plan.specs.Beneath.{stands_and, ItemsBeneath}
-use Rattle.line_plan.proofs.Picking.{picked, picked_one, passed_other, passed_block, beneath-picked, few-picked}
-use Rattle.line_plan.proofs.Trees.{stands-tree}
+use Rattle.line_plan.proofs.Picking.{picked, picked_one, passed_other, passed_block, beneath_picked, few_picked}
+use Rattle.line_plan.proofs.Trees.{stands_tree}
 use Rattle.line_plan.proofs.beneath.items_beneath.Goals as goal
 use Rattle.line_plan.proofs.beneath.items_beneath.Goals.{in-Item+then-lies_beneath, in-Item+else-lies_beneath, in_default}
 
 -- where the call says that an item lies beneath a standing line, the line's tree has it
 in_tree : (h : History) → Lawful h → (n i : ℕ) → is_some (standing h n) ≡ true → (r v : Bool) → r ≡ v → r ≡ stands_and h n (λ x. has (items x) i) → has (items (tree_of h n)) i ≡ v
-in_tree h l n i on r v e told = sym (told ∙ stands-tree h l (λ x. has (items x) i) n on) ∙ e
+in_tree h l n i on r v e told = sym (told ∙ stands_tree h l (λ x. has (items x) i) n on) ∙ e
 
 pub add-requires : goal.add-requires
 add-requires c = kept_bound c.args.book.now _ _ (λ h k.
@@ -31,7 +31,7 @@ add-requires c = kept_bound c.args.book.now _ _ (λ h k.
       ap length (c.loop-line.invariant h k),
       length-append (listed c.loop-line.items) (picked is (drop i ls)),
       ap length (picked_one is ls i c.loop-line-test.true c.in-Item.item_type on c.in-Item.is),
-      few-picked h k.lawful n (c.requires h k),
+      few_picked h k.lawful n (c.requires h k),
     ))
 
 pub loop-line-preserved : goal.loop-line-preserved
@@ -69,4 +69,4 @@ returns c h k =
     (sym (sym (append-nil (listed c.loop-line.items))
     ∙ ap (λ (ls : List Line). listed c.loop-line.items ++ picked is ls) (sym (drop_all c.loop-line.line-index c.lines-lines.result.now c.loop-line-test.false))
     ∙ c.loop-line.invariant h k))
-    (beneath-picked h k.lawful c.args.number.value (c.requires h k))
+    (beneath_picked h k.lawful c.args.number.value (c.requires h k))

@@ -1,4 +1,4 @@
 use Rattle.row.proofs.only_type.+only_type.Given as goal
 
-abbrev pub decreases-only-type : goal.decreases-only-type
-decreases-only-type l = l.number.value
+abbrev pub decreases-only_type : goal.decreases-only_type
+decreases-only_type l = l.number.value

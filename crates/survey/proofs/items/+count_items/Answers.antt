@@ -1,7 +1,4 @@
-use Rattle.std.proofs.Common.{◌≡◌, ℕ, suc, ◌+◌, ◌<◌, ◌≤◌, Some, ap, ◌∙◌, arith}
-use Rattle.rules.specs.declared.line.Part.TheVariants.{Item, Block}
-use Rattle.rules.specs.History.{History, standing}
-use Rattle.book.specs.Keeps.{Keeps}
+use Rattle.std.proofs.Common.{◌+◌, ◌<◌, ◌≤◌, Some, ap, ◌∙◌, arith}
 use Rattle.book.proofs.Steps.{kept_bound}
 use Rattle.sums.proofs.Forest.{lines_stand, lines_low, few_beneath}
 use Rattle.survey.proofs.Places.{not_refused, from_kept, answer_stands, items_one, items_both}

@@ -1,4 +1,4 @@
-use Rattle.std.proofs.Common.{List, sym, ap, ◌∙◌, subst, arith}
+use Rattle.std.proofs.Common.{List, subst}
 use Rattle.rules.specs.declared.line.Line.{Line}
 use Rattle.rules.specs.Tables.{At}
 use Rattle.rules.specs.History.{given, standing}

@@ -19,11 +19,11 @@ invariant_of-self c =
     record {
       room = omega arith;
       kept = ∥∥₁_map b.kept (λ k. (
-          Join c.args.kind c.args.a c.args.b ∷ k.0,
-          join_step k.0 (vec_items b.table.lines) b.last k.1 c.args.kind c.args.a c.args.b c.args.place_a c.args.place_b c.new-number.result.value
-              (vec_items c.mark.new.self.lines) (vec_items c.mark-2.new.self.lines) (vec_items c.add.new.self.lines)
-              (c.requires.allowed k.0 k.1) c.requires.first c.requires.second c.new-number.ensures c.mark.ensures.items c.mark-2.ensures.items c.add.ensures.items,
-        ));
+        Join c.args.kind c.args.a c.args.b ∷ k.0,
+        join_step k.0 (vec_items b.table.lines) b.last k.1 c.args.kind c.args.a c.args.b c.args.place_a c.args.place_b c.new-number.result.value
+            (vec_items c.mark.new.self.lines) (vec_items c.mark-2.new.self.lines) (vec_items c.add.new.self.lines)
+            (c.requires.allowed k.0 k.1) c.requires.first c.requires.second c.new-number.ensures c.mark.ensures.items c.mark-2.ensures.items c.add.ensures.items,
+      ));
     }
 
 pub returns : goal.returns

@@ -19,10 +19,10 @@ invariant_of-self c =
     record {
       room = omega arith;
       kept = ∥∥₁_map b.kept (λ k. (
-          Issue c.args.asked ∷ k.0,
-          issue_step k.0 (vec_items b.table.lines) b.last k.1 c.args.asked c.new-number.result.value c.args.item_type (vec_items c.add.new.self.lines)
-              (c.requires.allowed k.0 k.1) c.requires.known c.new-number.ensures c.add.ensures.items,
-        ));
+        Issue c.args.asked ∷ k.0,
+        issue_step k.0 (vec_items b.table.lines) b.last k.1 c.args.asked c.new-number.result.value c.args.item_type (vec_items c.add.new.self.lines)
+            (c.requires.allowed k.0 k.1) c.requires.known c.new-number.ensures c.add.ensures.items,
+      ));
     }
 
 pub returns : goal.returns

@@ -1,4 +1,4 @@
-use Rattle.std.proofs.Common.{◌≡◌, ◌∷◌, vec_items, sym, refl, ap, ◌∙◌, arith}
+use Rattle.std.proofs.Common.{◌∷◌, vec_items, sym, refl, ap, ◌∙◌, arith}
 use mathlib.Core.Logic.{∥∥₁_map}
 use Rattle.rules.specs.declared.change.Change.TheVariants.{Withdraw}
 use Rattle.rules.specs.declared.line.Line.{Line}
@@ -12,11 +12,11 @@ invariant_of-self c =
     record {
       room = omega arith;
       kept = ∥∥₁_map b.kept (λ k. (
-          Withdraw c.args.number ∷ k.0,
-          block_step k.0 (vec_items b.table.lines) b.last k.1 c.args.number c.args.place _ c.in-Block.a c.in-Block.b
-              (vec_items c.take_out-line.new.self.lines) (vec_items c.release.new.self.lines) (vec_items c.release-in-Block.new.self.lines)
-              (c.requires.1 k.0 k.1) c.requires.0 part c.take_out-line.ensures.items c.release.ensures.items c.release-in-Block.ensures.items,
-        ));
+        Withdraw c.args.number ∷ k.0,
+        block_step k.0 (vec_items b.table.lines) b.last k.1 c.args.number c.args.place _ c.in-Block.a c.in-Block.b
+            (vec_items c.take_out-line.new.self.lines) (vec_items c.release.new.self.lines) (vec_items c.release-in-Block.new.self.lines)
+            (c.requires.1 k.0 k.1) c.requires.0 part c.take_out-line.ensures.items c.release.ensures.items c.release-in-Block.ensures.items,
+      ));
     }
 
 pub invariant_of-self-in_default : goal.invariant_of-self-in_default
@@ -26,10 +26,10 @@ invariant_of-self-in_default c =
     record {
       room = omega arith;
       kept = ∥∥₁_map b.kept (λ k. (
-          Withdraw c.args.number ∷ k.0,
-          item_step k.0 (vec_items b.table.lines) b.last k.1 c.args.number c.args.place _ (vec_items c.take_out-line.new.self.lines)
-              (c.requires.1 k.0 k.1) c.requires.0 part c.take_out-line.ensures.items,
-        ));
+        Withdraw c.args.number ∷ k.0,
+        item_step k.0 (vec_items b.table.lines) b.last k.1 c.args.number c.args.place _ (vec_items c.take_out-line.new.self.lines)
+            (c.requires.1 k.0 k.1) c.requires.0 part c.take_out-line.ensures.items,
+      ));
     }
 
 pub returns-in-Block : goal.returns-in-Block

@@ -1,4 +1,4 @@
-use Rattle.std.proofs.Common.{◌≡◌, ℕ, ap, ◌∙◌, arith}
+use Rattle.std.proofs.Common.{◌≡◌, ap, ◌∙◌, arith}
 use Rattle.plan.specs.Sets.{size, both, members}
 use Rattle.count.proofs.by_type.PlacesByType.cell.Goals as goal
 

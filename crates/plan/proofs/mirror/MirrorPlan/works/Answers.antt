@@ -1,4 +1,4 @@
-use Rattle.std.proofs.Common.{not, sym, ap, ◌∙◌, ⊎_elim}
+use Rattle.std.proofs.Common.{not, ap, ◌∙◌, ⊎_elim}
 use Rattle.std.proofs.lemmas.Bool.{cases_lt, lt-ltb}
 use Rattle.plan.specs.Sets.{members, others}
 use Rattle.plan.specs.Plans.{turned_over}

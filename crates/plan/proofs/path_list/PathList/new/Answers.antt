@@ -1,5 +1,4 @@
 use Rattle.std.proofs.Common.{vec_items, subst, rules}
-use Rattle.plan.specs.Paths.{all_filled}
 use Rattle.rules.specs.Rules.{Allowed}
 use Rattle.plan.specs.Paths.{each_path}
 use Rattle.plan.specs.PathsLemmas.{allowed_filled}

@@ -1,4 +1,4 @@
-use Rattle.std.proofs.Common.{◌≡◌, ℕ, ◌<◌, true, false, get_or, drop}
+use Rattle.std.proofs.Common.{◌≡◌, ℕ, ◌<◌, false, get_or, drop}
 use Rattle.plan.specs.Sets.{members, less}
 use Rattle.plan.specs.Paths.{some_path}
 use Rattle.plan.proofs.path_list.working.some_path_works.Given as goal
