@@ -80,7 +80,7 @@ def compare(program, counting, name, seed, how_many):
 
 
 def main():
-    program = sys.argv[1] if len(sys.argv) > 1 else os.path.join(HERE, "..", "..", "target", "bin", "trial")
+    program = sys.argv[1] if len(sys.argv) > 1 else os.path.join(HERE, "..", "..", "crates", "trial", "out", "trial")
     how_many = int(sys.argv[2]) if len(sys.argv) > 2 else 12000
     fresh = int(sys.argv[3]) if len(sys.argv) > 3 else random.SystemRandom().randrange(1 << 32)
     with tempfile.TemporaryDirectory() as folder:

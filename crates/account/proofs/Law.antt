@@ -1,6 +1,5 @@
 -- The law of whole runs.
-use Rattle.std.proofs.Common.{◌≡◌, ℕ, zero, suc, ◌+◌, ◌<◌, ◌≤◌, Bool, true, false, cond, eqb, ◌⊎◌, List, [], ◌∷◌, ◌++◌, length, is_some, is_ok, Some, None, Ok, Err, Option, Result, sym, refl, ap, ◌∙◌, subst, inl, inr, ⊎_elim, arith, MatchResult}
-use Rattle.std.specs.Option.{option_map}
+use Rattle.std.proofs.Common.{◌≡◌, ℕ, zero, suc, ◌≤◌, true, false, cond, eqb, ◌⊎◌, List, [], ◌∷◌, ◌++◌, length, is_some, is_ok, Some, None, Ok, Err, Option, Result, sym, refl, ap, ◌∙◌, subst, inl, inr, ⊎_elim, arith, MatchResult}
 use Rattle.std.proofs.lemmas.Bool.{ne_eqb, eq-eqb, cond-true, cond-false}
 use Rattle.rules.specs.declared.change.Change.{Change}
 use Rattle.rules.specs.declared.change.Change.TheVariants.{Issue, Join, Withdraw}
@@ -8,15 +7,14 @@ use Rattle.rules.specs.declared.line.Line.{Line}
 use Rattle.rules.specs.declared.line.Part.{Part}
 use Rattle.rules.specs.declared.part_number.PartNumber.{PartNumber}
 use Rattle.rules.specs.declared.refusal.Refusal.{Refusal}
-use Rattle.rules.specs.History.{History, given, standing, how_many, lines_standing, withdrawals, line_of, place_in}
-use Rattle.rules.specs.Rules.{Rule, Allowed, Refused, Decided}
+use Rattle.rules.specs.History.{History, given, standing, how_many, line_of, place_in}
+use Rattle.rules.specs.Rules.{Rule, Allowed, Decided}
 use Rattle.rules.specs.Ruled.{naming, change_rules, change_number, QuestionRuled, Lawful}
 use Rattle.rules.proofs.Counting.{cond_cases}
 use Rattle.rules.proofs.Sound.{usable}
 use Rattle.rules.proofs.Limits.{balance}
 use Rattle.sums.specs.Semiring.{Meaning}
 use Rattle.book.specs.declared.book.Book.{Book}
-use Rattle.book.specs.Kept.{Holds}
 use Rattle.book.specs.Keeps.{Keeps, Makes}
 use Rattle.book.specs.Snapshots.{Same}
 use Rattle.survey.specs.Surveys.{survey_rules}
@@ -24,7 +22,7 @@ use Rattle.sheet.specs.declared.fault.Fault.{Fault}
 use Rattle.sheet.specs.Texts.{Line as Sheet-line}
 use Rattle.sheet.specs.Readings.{change_of}
 use Rattle.sheet.specs.Checks.{Checked, check_of, above_last}
-use Rattle.sheet.specs.Applying.{InTurn, LineRuled, SheetRuled, Applies, Enters, EnterRuled, changes_of, asked, onto}
+use Rattle.sheet.specs.Applying.{InTurn, LineRuled, SheetRuled, Applies, changes_of, asked}
 use Rattle.sheet.specs.Laws.{check_rules, refusal_of}
 use Rattle.sheet.proofs.Closings.{checks_ruled}
 use Rattle.account.specs.Calls.{Call, change, sheet, question, survey, changes_in, noted, history, Ruled, one_if_answered, answered, TakenOut, ChangeNames, SomeNames, Names, IsRefused}

@@ -10,7 +10,7 @@ use Rattle.rules.specs.Trees.{tree_of, type_in}
 use Rattle.survival.specs.declared.bounds.Bounds.{Bounds}
 use Rattle.survival.specs.declared.fractions.Fractions.{Fractions}
 use Rattle.survival.specs.declared.shares.Shares.{Shares}
-use Rattle.survival.specs.LowHigh.{S, low, high, Encloses}
+use Rattle.survival.specs.LowHigh.{S, low, Encloses}
 use Rattle.survival.specs.Ruled.{share_of, SurvivalOf}
 use Rattle.survival.specs.Held.{fraction_of, BoundsOf}
 use Rattle.survival.proofs.Enclosing.{encloses}

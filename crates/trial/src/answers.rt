@@ -84,11 +84,7 @@ fn show_line<W: Write>(answer: Result<Line, Refusal>, out: &mut W) -> io::Result
         Ok(line) => line,
         Err(refusal) => return show_refusal(refusal, out),
     };
-    let place = if line.is_free() {
-        "free"
-    } else {
-        "built-in"
-    };
+    let place = if line.is_free() { "free" } else { "built-in" };
     match line.part {
         Part::Item(item_type) => {
             let item_type = item_type.number();

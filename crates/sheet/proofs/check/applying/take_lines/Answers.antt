@@ -1,4 +1,4 @@
-use Rattle.std.proofs.Common.{◌≡◌, ℕ, List, [], ◌∷◌, Some, Err, sym, refl, subst, arith}
+use Rattle.std.proofs.Common.{◌≡◌, ℕ, List, [], ◌∷◌, Some, Err, sym, subst, arith}
 use Rattle.sheet.specs.Texts.{Line, first, others}
 use Rattle.sheet.specs.Cursors.{lines_left}
 use Rattle.sheet.specs.Applying.{InTurn}
