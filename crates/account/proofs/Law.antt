@@ -19,7 +19,7 @@ use Rattle.book.specs.Keeps.{Keeps, Makes}
 use Rattle.book.specs.Snapshots.{Same}
 use Rattle.survey.specs.Surveys.{survey_rules}
 use Rattle.sheet.specs.declared.fault.Fault.{Fault}
-use Rattle.sheet.specs.Texts.{Line as Sheet-line}
+use Rattle.sheet.specs.Texts.{Line as SheetLine}
 use Rattle.sheet.specs.Readings.{change_of}
 use Rattle.sheet.specs.Checks.{Checked, check_of, above_last}
 use Rattle.sheet.specs.Applying.{InTurn, LineRuled, SheetRuled, Applies, changes_of, asked}
@@ -46,7 +46,7 @@ module _ {I : Type 0} {F : I → Type 0} (meaning : (i : I) → Meaning (F i)) w
 
   entered_keeps : (text : List ℕ) (c : Result Checked Fault) → check_of text ≡ c → (r : Result ℕ Fault) (h : History) (b b' : Book)
       → MatchResult c (λ s. Applies s b r b') (λ f. (r ≡ Err f) × (b' ≡ b)) → Keeps h b → Keeps (noted r (changes_in text) h) b'
-  entered_keeps text (Ok s) e r h b b' a k = subst (λ (ls : List Sheet-line). Keeps (noted r (changes_of ls) h) b') (applied text s e) (applied_keeps s r h b b' a k)
+  entered_keeps text (Ok s) e r h b b' a k = subst (λ (ls : List SheetLine). Keeps (noted r (changes_of ls) h) b') (applied text s e) (applied_keeps s r h b b' a k)
   entered_keeps text (Err f) e (Ok n) h b b' a k = absurd (let z : ◌≡◌ {A = ℕ} 0 1 = cc a.0 in omega arith)
   entered_keeps text (Err f) e (Err g) h b b' a k = subst (Keeps h) (sym a.1) k
 
@@ -141,7 +141,7 @@ stays_out (Join k a b) n h o = next_out n h _ o
 stays_out (Withdraw m) n h o = (o.0, ⊎_elim (λ w. w.1) (λ w. w.1 ∙ o.1) (cond_cases n m.value None (standing h n)))
 
 -- lines of which one names what is out are not all accepted
-lines_refused : (ls : List Sheet-line) (n : ℕ) (h : History) → Out n h → SomeNames n (changes_of ls) → InTurn h ls (Ok tt) → ⊥
+lines_refused : (ls : List SheetLine) (n : ℕ) (h : History) → Out n h → SomeNames n (changes_of ls) → InTurn h ls (Ok tt) → ⊥
 lines_refused [] n h o w t = w
 lines_refused (l ∷ ls) n h o w t = at (λ d later r. lines_refused ls n (d ∷ h) (stays_out d n h o) later r) (change_of l) w t
   where
@@ -157,7 +157,7 @@ sheet_refused : (text : List ℕ) (c : Result Checked Fault) → check_of text �
 sheet_refused text c e (Err f) n h o w ruled = refl
 sheet_refused text (Err f) e (Ok m) n h o w ruled = absurd (let z : ◌≡◌ {A = ℕ} 0 1 = cc in omega arith)
 sheet_refused text (Ok s) e (Ok m) n h o w ruled =
-    absurd (lines_refused s.above n h o (subst (λ (ls : List Sheet-line). SomeNames n (changes_of ls)) (sym (applied text s e)) w) ruled.2)
+    absurd (lines_refused s.above n h o (subst (λ (ls : List SheetLine). SomeNames n (changes_of ls)) (sym (applied text s e)) w) ruled.2)
 
 out_refused : {I : Type 0} {F : I → Type 0} (meaning : (i : I) → Meaning (F i)) (c : Call I F) (n : ℕ) (h : History) → Out n h → Names n c → Ruled meaning h c → IsRefused c
 out_refused meaning (change d r) n h o w ruled = refused (change_rules h d) (λ m. m.value ≡ change_number h d) r (change_refused d n h o w) ruled

@@ -1,6 +1,6 @@
 -- Each line and each token is the part of the text at its place.
 use Rattle.std.proofs.Common.{◌≡◌, ℕ, suc, ◌+◌, eqb, List, [], ◌∷◌, ◌++◌, length, Some, None, Option, sym, refl, ap, ◌∙◌, subst, ⊎_elim, append_assoc, arith, length-append, eqb-true}
-use Rattle.std.specs.List.{AllByRecursion as All}
+use Rattle.std.specs.List.{AllByRecursion}
 use Rattle.std.proofs.lemmas.Bool.{cases_Bool}
 use Rattle.sheet.specs.declared.token.Verb.{Verb}
 use Rattle.sheet.specs.Texts.{longer, lines_in, words_in, numbered, lines_of}
@@ -18,7 +18,7 @@ token_stands t p (b ∷ []) s = at (verb_of b) refl
 token_stands t p (a ∷ b ∷ w) s = s
 
 -- the words of a line that stands at the place p
-words_stand : (t front rest : List ℕ) (p : ℕ) (ws : List (List ℕ)) → t ≡ front ++ (spaced ws ++ rest) → length front ≡ p → All (TokenStands t) (placed p ws)
+words_stand : (t front rest : List ℕ) (p : ℕ) (ws : List (List ℕ)) → t ≡ front ++ (spaced ws ++ rest) → length front ≡ p → AllByRecursion (TokenStands t) (placed p ws)
 words_stand t front rest p [] is long = tt
 words_stand t front rest p (w ∷ []) is long = (token_stands t p w (front, rest, is, long), tt)
 words_stand t front rest p (w ∷ v ∷ ws) is long =
@@ -45,7 +45,7 @@ lines_joined (b ∷ t) =
     longer-joined b t [] rest is = (b ∷ t, refl)
     longer-joined b t (l ∷ ls) rest is = (rest, ap (λ s. b ∷ s) is)
 
-lines_laid : (t front rest : List ℕ) (n p : ℕ) (ls : List (List ℕ)) → t ≡ front ++ (ended_lines ls ++ rest) → length front ≡ p → All (LineStands t) (numbered n p ls)
+lines_laid : (t front rest : List ℕ) (n p : ℕ) (ls : List (List ℕ)) → t ≡ front ++ (ended_lines ls ++ rest) → length front ≡ p → AllByRecursion (LineStands t) (numbered n p ls)
 lines_laid t front rest n p [] is long = tt
 lines_laid t front rest n p (l ∷ ls) is long =
     let here : t ≡ front ++ (l ++ (10 ∷ (ended_lines ls ++ rest))) = is ∙ ap (λ s. front ++ s) (append_assoc l (10 ∷ ended_lines ls) rest) in
@@ -55,5 +55,5 @@ lines_laid t front rest n p (l ∷ ls) is long =
     let more : length (front ++ (l ++ 10 ∷ [])) ≡ p + suc (length l) = simp length-append (omega arith) in
     (((front, ended_lines ls ++ rest, line, long), words_stand t front (10 ∷ (ended_lines ls ++ rest)) p (words_in l) words long), lines_laid t (front ++ (l ++ 10 ∷ [])) rest (suc n) (p + suc (length l)) ls on more)
 
-pub lines_stand : (t : List ℕ) → All (LineStands t) (lines_of t)
+pub lines_stand : (t : List ℕ) → AllByRecursion (LineStands t) (lines_of t)
 lines_stand t = let k = lines_joined t in lines_laid t [] k.0 1 0 (lines_in t) k.1 refl

@@ -1,6 +1,6 @@
 -- What holds of every sheet.
 use Rattle.std.specs.Prelude.{◌≡◌, ℕ, ◌<◌, false, ◌⊎◌, List, [], ◌∷◌, ◌++◌, length, Some, None, Ok, Err, Option, Result}
-use Rattle.std.specs.List.{AllByRecursion as All}
+use Rattle.std.specs.List.{AllByRecursion}
 use Rattle.rules.specs.declared.refusal.Refusal.{Refusal}
 use Rattle.rules.specs.declared.refusal.Refusal.TheVariants.{SheetTooLong, NoClosingLine, WrongLineCount}
 use Rattle.rules.specs.Rules.{Rule, ◌when◌, Decided}
@@ -31,7 +31,7 @@ TokenStands text (word w p) = Stands text p w
 
 -- a line and its byte 10 stand at its place, and so does each of its tokens
 abbrev pub LineStands : List ℕ → Line → Type 0
-LineStands text line = Stands text line.place (line.bytes ++ 10 ∷ []) × All (TokenStands text) (tokens line.place line.bytes)
+LineStands text line = Stands text line.place (line.bytes ++ 10 ∷ []) × AllByRecursion (TokenStands text) (tokens line.place line.bytes)
 
 -- the closing line counts another number of lines above it
 abbrev pub Miscounts : List ℕ → Option Closing → Type 0
@@ -51,6 +51,6 @@ refusal_of (Ok sheet) = Ok sheet
 refusal_of (Err fault) = Err fault.refusal
 
 pub record SheetLaws : Type 0 where
-  pub lines_stand : (text : List ℕ) → All (LineStands text) (lines_of text)
+  pub lines_stand : (text : List ℕ) → AllByRecursion (LineStands text) (lines_of text)
   pub lines_written : LinesWritten
   pub checks_ruled : (text : List ℕ) → Decided (check_rules text) (λ sheet. (sheet.above ≡ above_last text) × (sheet.count ≡ length (above_last text))) (refusal_of (check_of text))
