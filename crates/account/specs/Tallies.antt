@@ -1,15 +1,16 @@
 -- The tallies that one run may mix: those of any type T, counts, prices and signature tables.
-use mathlib.Core.Logic.{_⊎_, inl, inr}
-use Rattle·sums.specs.Semiring.{Meaning}
-use Rattle·tally.specs.declared.count.Count.{Count}
-use Rattle·tally.specs.declared.prices.Prices.{Prices}
-use Rattle·tally.specs.declared.state_count.StateCount.{StateCount}
-use Rattle·tally.specs.declared.loss.Loss.{Loss}
-use Rattle·tally.specs.Counts.{counts}
-use Rattle·tally.specs.Pricing.{prices}
-use Rattle·cells.specs.declared.table.CellTable.{CellTable}
-use Rattle·signature.specs.declared.Signature.{Signature}
-use Rattle·signature.specs.Signature.{signature}
+use Rattle.std.specs.Prelude.{◌⊎◌}
+use Rattle.std.proofs.Common.{inl, inr}
+use Rattle.sums.specs.Semiring.{Meaning}
+use Rattle.tally.specs.declared.count.Count.{Count}
+use Rattle.tally.specs.declared.prices.Prices.{Prices}
+use Rattle.tally.specs.declared.state_count.StateCount.{StateCount}
+use Rattle.tally.specs.declared.loss.Loss.{Loss}
+use Rattle.tally.specs.Counts.{counts}
+use Rattle.tally.specs.Pricing.{prices}
+use Rattle.cells.specs.declared.table.CellTable.{CellTable}
+use Rattle.signature.specs.declared.Signature.{Signature}
+use Rattle.signature.specs.Signature.{signature}
 
 -- one of them
 abbrev pub Tallies : Type 0 → Type 0

@@ -1,11 +1,11 @@
-ghost use mathlib.Core.Logic.{inl};
-ghost use mathlib.Core.Path.{_≡_};
-ghost use denote.Ref.{name};
-ghost use Rattle·book.specs.declared.book.Book.{Book as AnyBook};
-ghost use Rattle·line_plan.specs.Meanings.{plan-answer};
-ghost use Rattle·account·specs.Calls.{change as changing, sheet as entering, reading, question as asking, survey as surveying, row as rowing, survival as surviving, line-plan as planning, lockout as locking, long-count as counting};
-ghost use Rattle·account·specs.Runs.{Goes-on};
-ghost use Rattle·account·specs.Tallies.{meanings};
+ghost use Rattle.std.proofs.Common.{inl};
+ghost use Rattle.std.specs.Prelude.{◌≡◌};
+ghost use Rattle.book.specs.declared.book.Book.{Book as AnyBook};
+ghost use Rattle.line_plan.specs.Meanings.{plan_answer};
+ghost use Rattle.account.specs.Calls.{change as changing, sheet as entering, reading, question as asking, survey as surveying, row as rowing, survival as surviving, plan_of_line as planning, lockout as locking, long_count as counting};
+ghost use Rattle.account.specs.Runs.{GoesOn};
+ghost use Rattle.account.specs.Tallies.{meanings};
+
 use book::book::Book;
 use cells::table::CellTable;
 use line_plan::LinePlan;
@@ -23,19 +23,19 @@ use tally::Tally;
 
 // Each call goes on the run of calls before it: its own contract is the step that the law speaks of.
 pub fn make<T: Tally>(book: &mut Book, change: Change) -> Result<PartNumber, Refusal>
-    ensures { λ r. ⌜ Goes-on (meanings (T·Tally .meaning)) (changing change r) (now (book .entry)) (now (book .exit)) ⌝ }
+    ensures { GoesOn (meanings T.Tally.meaning) (changing change result) book.old book.new }
 {
     book.make(change)
 }
 
 pub fn enter<T: Tally>(book: &mut Book, text: &[u8]) -> Result<u32, Fault>
-    ensures { λ r. ⌜ Goes-on (meanings (T·Tally .meaning)) (entering (now (text .entry)) r) (now (book .entry)) (now (book .exit)) ⌝ }
+    ensures { GoesOn (meanings T.Tally.meaning) (entering text.now result) book.old book.new }
 {
     sheet::entering::enter(text, book)
 }
 
 pub fn question<T: Tally>(book: &Book, number: PartNumber) -> Result<Line, Refusal>
-    ensures { λ r. ⌜ Goes-on (meanings (T·Tally .meaning)) (reading (asking (number .value) r)) (now (book .entry)) (now (book .entry)) ⌝ }
+    ensures { GoesOn (meanings T.Tally.meaning) (reading (asking number.value result)) book.now book.now }
 {
     book.question(number)
 }
@@ -46,8 +46,8 @@ pub fn survey<T: Tally>(
     tally: &T,
     bench: &mut Bench<T::Figure>,
 ) -> Result<usize, Refusal>
-    ensures run { λ r. ⌜ Goes-on (meanings (T·Tally .meaning)) (reading (surveying (inl (now (tally .entry))) (number .value) (now (now (bench .entry) .places)) r (now (now (bench .exit) .places)))) (now (book .entry)) (now (book .entry)) ⌝ }
-    ensures same { λ _. ⌜ name (now (bench .exit) .places) ≡ name (now (bench .entry) .places) ⌝ }
+    ensures run { GoesOn (meanings T.Tally.meaning) (reading (surveying (inl tally.now) number.value bench.old.places.now result bench.new.places.now)) book.now book.now }
+    ensures same { bench.new.places.ghost_name ≡ bench.old.places.ghost_name }
 {
     survey::survey(book, number, tally, bench)
 }
@@ -58,8 +58,8 @@ pub fn failure_row<T: Tally>(
     bench: &mut Bench<CellTable>,
     row: &mut [u32; 7],
 ) -> Result<(), Refusal>
-    ensures run { λ r. ⌜ Goes-on (meanings (T·Tally .meaning)) (reading (rowing (number .value) (now (now (bench .entry) .places)) (now (row .entry)) r (now (now (bench .exit) .places)) (now (row .exit)))) (now (book .entry)) (now (book .entry)) ⌝ }
-    ensures same { λ _. ⌜ name (now (bench .exit) .places) ≡ name (now (bench .entry) .places) ⌝ }
+    ensures run { GoesOn (meanings T.Tally.meaning) (reading (rowing number.value bench.old.places.now row.old result bench.new.places.now row.new)) book.now book.now }
+    ensures same { bench.new.places.ghost_name ≡ bench.old.places.ghost_name }
 {
     row::failure_row(book, number, bench, row)
 }
@@ -69,25 +69,25 @@ pub fn survival<T: Tally>(
     number: PartNumber,
     shares: Shares,
 ) -> Result<(FixedPoint, FixedPoint), Refusal>
-    ensures { λ r. ⌜ Goes-on (meanings (T·Tally .meaning)) (reading (surviving (number .value) shares r)) (now (book .entry)) (now (book .entry)) ⌝ }
+    ensures { GoesOn (meanings T.Tally.meaning) (reading (surviving number.value shares result)) book.now book.now }
 {
     survival::survival(book, number, shares)
 }
 
 pub fn line_plan<'a, T: Tally>(book: &'a Book, number: PartNumber) -> Result<LinePlan<'a>, Refusal>
-    ensures { λ r. ⌜ Goes-on (meanings (T·Tally .meaning)) (reading (planning (number .value) (plan-answer r))) (now (book .entry)) (now (book .entry)) ⌝ }
+    ensures { GoesOn (meanings T.Tally.meaning) (reading (planning number.value (plan_answer result))) book.now book.now }
 {
     LinePlan::new(book, number)
 }
 
 pub fn lockout<T: Tally>(place: u8) -> Result<LockedPlace, Refusal>
-    ensures { λ r. ⌜ ((b : AnyBook) → Goes-on (meanings (T·Tally .meaning)) (reading (locking place r)) b b) ⌝ }
+    ensures { (b : AnyBook) → GoesOn (meanings T.Tally.meaning) (reading (locking place result)) b b }
 {
     LockedPlace::new(place)
 }
 
 pub fn long_count<T: Tally, P: Plan>(plan: &P, table: &mut CellTable) -> Result<(), Refusal>
-    ensures { λ r. ⌜ ((b : AnyBook) → Goes-on (meanings (T·Tally .meaning)) (reading (counting (P·Plan .meaning (now (plan .entry))) (now (table .entry)) r (now (table .exit)))) b b) ⌝ }
+    ensures { (b : AnyBook) → GoesOn (meanings T.Tally.meaning) (reading (counting (P.Plan.meaning plan.now) table.old result table.new)) b b }
 {
     count::long_count(plan, table)
 }

@@ -1,10 +1,13 @@
+#![tactic(auto)]
+
 pub mod calls;
 #[cfg(test)]
 mod tests;
 
-ghost use mathlib.Core.Path.{_≡_};
-ghost use Rattle·account·specs.Runs.{Whole-runs, Accounts};
-ghost use Rattle·account·specs.Tallies.{meanings};
+ghost use Rattle.std.specs.Prelude.{◌≡◌};
+ghost use Rattle.account.specs.Runs.{WholeRuns, Accounts};
+ghost use Rattle.account.specs.Tallies.{meanings};
+
 use book::book::Book;
 use plan::Plan;
 use tally::Tally;
@@ -22,8 +25,8 @@ pub struct Numbers {
 // that numbers given are lines standing and withdrawals made. T is any tally under which the book was
 // surveyed on the way.
 pub fn account<T: Tally, P: Plan>(book: &Book) -> Numbers
-    ensures runs { λ _. ⌜ Whole-runs (meanings (T·Tally .meaning)) (P·Plan .meaning) ⌝ }
-    ensures here { λ r. ⌜ Accounts (now (book .entry)) (r .given) (r .standing) (r .withdrawn) ⌝ }
+    ensures runs { WholeRuns (meanings T.Tally.meaning) P.Plan.meaning }
+    ensures here { Accounts book.now result.given result.standing result.withdrawn }
 {
     let given = book.last_number();
     let standing = book.lines().len() as u32;

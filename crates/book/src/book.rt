@@ -3,9 +3,9 @@ mod new;
 mod questions;
 pub mod snapshot;
 
-ghost use Prim.Native.Nat.{ℕ, _≤_};
-ghost use Rattle·std.specs.Of.Vec.{vec-items, vec-cap};
-ghost use Rattle·book·specs.Kept.{Kept};
+ghost use Rattle.std.specs.Prelude.{ℕ, ◌≤◌, vec_capacity};
+ghost use Rattle.book.specs.Kept.{Kept};
+
 use crate::table::Table;
 
 // A book of one boat class's outfit systems: the lines that stand, and the last number given.
@@ -14,6 +14,6 @@ use crate::table::Table;
 pub struct Book {
     table: Table,
     last: u32,
-    ghost room: { 31 ≤ vec-cap (table .lines) },
-    ghost kept: { Kept (vec-items (table .lines)) last },
+    ghost room: { 31 ≤ vec_capacity table.lines },
+    ghost kept: { Kept table.lines.items last },
 }

@@ -1,3 +1,5 @@
+#![tactic(auto)]
+
 pub mod book;
 mod table;
 #[cfg(test)]

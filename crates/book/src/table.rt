@@ -1,13 +1,9 @@
-ghost use mathlib.Core.Path.{_≡_};
-ghost use Prim.Native.Nat.{ℕ, _+_, _<_, _≤_};
-ghost use lib.ListN.{length, getD, take};
-ghost use mathlib.Core.List.{List, [], _∷_, _++_};
-ghost use Rattle·std.specs.shelf.Lists.{removed, countBy};
-ghost use Rattle·std.specs.Of.Vec.{vec-len, vec-items, vec-cap};
-ghost use Rattle·std.specs.Options.{Cases as BySome};
-ghost use Rattle·rules.specs.Types.{type-number};
-ghost use Rattle·rules.specs.Tables.{no-line, marked, At, Missing, Released};
-ghost use Rattle·book·specs.Tables.{item-line, item-line-of};
+ghost use Rattle.std.specs.Prelude.{◌≡◌, ℕ, ◌+◌, ◌<◌, ◌≤◌, List, [], ◌∷◌, ◌++◌, length, take, vec_len, vec_capacity, count_by, MatchOption, slice_index_or};
+ghost use Rattle.std.specs.List.{remove};
+ghost use Rattle.rules.specs.Types.{type_number};
+ghost use Rattle.rules.specs.Tables.{no_line, marked, At, Missing, Released};
+ghost use Rattle.book.specs.Tables.{item_line, item_line_of};
+
 use rules::item_type::ItemType;
 use rules::line::Line;
 use rules::part_number::PartNumber;
@@ -22,48 +18,48 @@ pub struct Table {
 impl Table {
     // The line at `place`.
     pub fn at(&self, place: usize) -> Line
-        requires { ⌜ place < vec-len (now self .lines) ⌝ }
-        ensures { λ r. ⌜ r ≡ getD (vec-items (now (self .entry) .lines)) place no-line ⌝ }
+        requires { place < vec_len self.now.lines }
+        ensures { result ≡ slice_index_or self.now.lines.items place no_line }
     {
         self.lines[place]
     }
 
     // Changes the mark of the line at `place`, and nothing else.
     pub fn mark(&mut self, place: usize, built_in: bool)
-        requires { ⌜ place < vec-len (now self .lines) ⌝ }
-        ensures items { λ _. ⌜ vec-items (now (self .exit) .lines) ≡ marked (vec-items (now (self .entry) .lines)) place «built_in» ⌝ }
-        ensures len { λ _. ⌜ vec-len (now (self .exit) .lines) ≡ vec-len (now (self .entry) .lines) ⌝ }
-        ensures capacity { λ _. ⌜ vec-cap (now (self .exit) .lines) ≡ vec-cap (now (self .entry) .lines) ⌝ }
+        requires { place < vec_len self.old.lines }
+        ensures items { self.new.lines.items ≡ marked self.old.lines.items place built_in }
+        ensures len { vec_len self.new.lines ≡ vec_len self.old.lines }
+        ensures capacity { vec_capacity self.new.lines ≡ vec_capacity self.old.lines }
     {
         self.lines[place].built_in = built_in;
     }
 
     // Adds a line after the others.
     pub fn add(&mut self, line: Line)
-        requires { ⌜ vec-len (now self .lines) < vec-cap (now self .lines) ⌝ }
-        ensures items { λ _. ⌜ vec-items (now (self .exit) .lines) ≡ vec-items (now (self .entry) .lines) ++ line ∷ [] ⌝ }
-        ensures len { λ _. ⌜ vec-len (now (self .exit) .lines) ≡ vec-len (now (self .entry) .lines) + 1 ⌝ }
-        ensures capacity { λ _. ⌜ vec-cap (now (self .exit) .lines) ≡ vec-cap (now (self .entry) .lines) ⌝ }
+        requires { vec_len self.old.lines < vec_capacity self.old.lines }
+        ensures items { self.new.lines.items ≡ self.old.lines.items ++ line ∷ [] }
+        ensures len { vec_len self.new.lines ≡ vec_len self.old.lines + 1 }
+        ensures capacity { vec_capacity self.new.lines ≡ vec_capacity self.old.lines }
     {
         self.lines.push_reserved(line);
     }
 
     // Takes out the line at `place`.
     pub fn take_out(&mut self, place: usize) -> Line
-        requires { ⌜ place < vec-len (now self .lines) ⌝ }
-        ensures value { λ r. ⌜ r ≡ getD (vec-items (now (self .entry) .lines)) place no-line ⌝ }
-        ensures items { λ _. ⌜ vec-items (now (self .exit) .lines) ≡ removed (vec-items (now (self .entry) .lines)) place ⌝ }
-        ensures len { λ _. ⌜ vec-len (now (self .exit) .lines) + 1 ≡ vec-len (now (self .entry) .lines) ⌝ }
-        ensures capacity { λ _. ⌜ vec-cap (now (self .exit) .lines) ≡ vec-cap (now (self .entry) .lines) ⌝ }
+        requires { place < vec_len self.old.lines }
+        ensures value { result ≡ slice_index_or self.old.lines.items place no_line }
+        ensures items { self.new.lines.items ≡ remove self.old.lines.items place }
+        ensures len { vec_len self.new.lines + 1 ≡ vec_len self.old.lines }
+        ensures capacity { vec_capacity self.new.lines ≡ vec_capacity self.old.lines }
     {
         self.lines.remove(place)
     }
 
     // Makes the line with the number free, if there is one.
     pub fn release(&mut self, number: PartNumber)
-        ensures items { λ _. ⌜ Released (number .value) (vec-items (now (self .entry) .lines)) (vec-items (now (self .exit) .lines)) ⌝ }
-        ensures len { λ _. ⌜ vec-len (now (self .exit) .lines) ≡ vec-len (now (self .entry) .lines) ⌝ }
-        ensures capacity { λ _. ⌜ vec-cap (now (self .exit) .lines) ≡ vec-cap (now (self .entry) .lines) ⌝ }
+        ensures items { Released number.value self.old.lines.items self.new.lines.items }
+        ensures len { vec_len self.new.lines ≡ vec_len self.old.lines }
+        ensures capacity { vec_capacity self.new.lines ≡ vec_capacity self.old.lines }
     {
         if let Some(place) = self.find(number) {
             self.mark(place, false);
@@ -72,11 +68,11 @@ impl Table {
 
     // Puts other lines in the place of all that it has.
     pub fn replace(&mut self, lines: &[Line; 31], count: usize)
-        requires within { ⌜ count ≤ 31 ⌝ }
-        requires room { ⌜ 31 ≤ vec-cap (now self .lines) ⌝ }
-        requires long { ⌜ length (now lines) ≡ 31 ⌝ }
-        ensures items { λ _. ⌜ vec-items (now (self .exit) .lines) ≡ take count (now (lines .entry)) ⌝ }
-        ensures capacity { λ _. ⌜ 31 ≤ vec-cap (now (self .exit) .lines) ⌝ }
+        requires within { count ≤ 31 }
+        requires room { 31 ≤ vec_capacity self.old.lines }
+        requires long { length lines.now ≡ 31 }
+        ensures items { self.new.lines.items ≡ take count lines.now }
+        ensures capacity { 31 ≤ vec_capacity self.new.lines }
     {
         self.lines.clear();
         let _ = self.lines.extend_from_slice(&lines[0..count]);
@@ -84,7 +80,7 @@ impl Table {
 
     // The place of the line with the number.
     pub fn find(&self, number: PartNumber) -> Option<usize>
-        ensures { λ r. ⌜ BySome r (Missing (vec-items (now (self .entry) .lines)) (number .value)) (λ i. At (vec-items (now (self .entry) .lines)) (number .value) i) ⌝ }
+        ensures { MatchOption result (Missing self.now.lines.items number.value) (λ i. At self.now.lines.items number.value i) }
     {
         for place in 0..self.lines.len() {
             if self.lines[place].number.get() == number.get() {
@@ -96,8 +92,8 @@ impl Table {
 
     // How many lines are items, and how many are items of the type.
     pub fn count_items(&self, item_type: ItemType) -> (usize, usize)
-        ensures all { λ r. ⌜ r .0 ≡ countBy item-line (vec-items (now (self .entry) .lines)) ⌝ }
-        ensures of_type { λ r. ⌜ r .1 ≡ countBy (item-line-of (type-number «item_type»)) (vec-items (now (self .entry) .lines)) ⌝ }
+        ensures all { result.0 ≡ count_by item_line self.now.lines.items }
+        ensures of_type { result.1 ≡ count_by (item_line_of (type_number item_type)) self.now.lines.items }
     {
         let lines = self.lines.as_slice();
         let mut all = 0;

@@ -1,18 +1,11 @@
 use crate::book::Book;
 use rules::item_type::ItemType;
 use rules::kind::Kind;
-use rules::line::Line;
-use rules::line::LineDebug;
-use rules::line::LinePartialEq;
-use rules::line::Part;
+use rules::line::{Line, Part};
 use rules::part_number::PartNumber;
-use rules::part_number::PartNumberDebug;
-use rules::part_number::PartNumberPartialEq;
 use rules::refusal::Refusal;
-use rules::refusal::RefusalDebug;
-use rules::refusal::RefusalPartialEq;
 use std::alloc::Global;
-use std::test::*;
+use std::test::Fail;
 
 fn n(value: u32) -> PartNumber {
     PartNumber::new(value)
@@ -30,56 +23,59 @@ fn five_lines(heap: Global) -> Result<Book, Fail> {
 }
 
 #[test]
-fn capacity(rt: LibcRuntime) -> Result<(), Fail> {
+fn capacity(rt: HostRuntime) -> Result<(), Fail> {
     let mut book = Book::new(rt.alloc())?;
     for number in 1..8 {
-        check_eq(book.issue(1), Ok(n(number)))?;
+        assert_eq!(rt; book.issue(1), Ok(n(number)));
     }
-    check_eq(book.issue(1), Err(Refusal::TooManyOfType))?;
+    assert_eq!(rt; book.issue(1), Err(Refusal::TooManyOfType));
     for number in 8..15 {
-        check_eq(book.issue(2), Ok(n(number)))?;
+        assert_eq!(rt; book.issue(2), Ok(n(number)));
     }
-    check_eq(book.issue(3), Ok(n(15)))?;
-    check_eq(book.issue(3), Ok(n(16)))?;
-    check_eq(book.issue(3), Err(Refusal::TooManyItems))?;
-    check_eq(book.issue(0), Err(Refusal::UnknownType))
+    assert_eq!(rt; book.issue(3), Ok(n(15)));
+    assert_eq!(rt; book.issue(3), Ok(n(16)));
+    assert_eq!(rt; book.issue(3), Err(Refusal::TooManyItems));
+    assert_eq!(rt; book.issue(0), Err(Refusal::UnknownType));
+    Ok(())
 }
 
 #[test]
-fn withdrawals(rt: LibcRuntime) -> Result<(), Fail> {
+fn withdrawals(rt: HostRuntime) -> Result<(), Fail> {
     let mut book = five_lines(rt.alloc())?;
-    check_eq(book.withdraw(n(4)), Err(Refusal::BuiltIn))?;
-    check_eq(book.withdraw(n(5)), Ok(n(5)))?;
-    check_eq(
+    assert_eq!(rt; book.withdraw(n(4)), Err(Refusal::BuiltIn));
+    assert_eq!(rt; book.withdraw(n(5)), Ok(n(5)));
+    assert_eq!(rt;
         book.question(n(4)),
         Ok(Line {
             number: n(4),
             part: Part::Block(Kind::Series, n(1), n(2)),
             built_in: false,
-        }),
-    )?;
-    check_eq(book.join(Kind::Parallel, n(3), n(4)), Ok(n(6)))?;
-    check_eq(
+        })
+    );
+    assert_eq!(rt; book.join(Kind::Parallel, n(3), n(4)), Ok(n(6)));
+    assert_eq!(rt;
         book.question(n(3)),
         Ok(Line {
             number: n(3),
             part: Part::Item(ItemType::Two),
             built_in: true,
-        }),
-    )?;
-    check_eq(book.question(n(5)), Err(Refusal::Withdrawn))?;
-    check_eq(book.question(n(7)), Err(Refusal::NeverGiven))?;
-    check_eq(book.question(n(0)), Err(Refusal::NeverGiven))
+        })
+    );
+    assert_eq!(rt; book.question(n(5)), Err(Refusal::Withdrawn));
+    assert_eq!(rt; book.question(n(7)), Err(Refusal::NeverGiven));
+    assert_eq!(rt; book.question(n(0)), Err(Refusal::NeverGiven));
+    Ok(())
 }
 
 #[test]
-fn joinings(rt: LibcRuntime) -> Result<(), Fail> {
+fn joinings(rt: HostRuntime) -> Result<(), Fail> {
     let mut book = five_lines(rt.alloc())?;
-    check_eq(book.join(Kind::Series, n(5), n(5)), Err(Refusal::SameLine))?;
-    check_eq(book.join(Kind::Series, n(5), n(4)), Err(Refusal::BuiltIn))?;
-    check_eq(
+    assert_eq!(rt; book.join(Kind::Series, n(5), n(5)), Err(Refusal::SameLine));
+    assert_eq!(rt; book.join(Kind::Series, n(5), n(4)), Err(Refusal::BuiltIn));
+    assert_eq!(rt;
         book.join(Kind::Series, n(9), n(4)),
-        Err(Refusal::NeverGiven),
-    )?;
-    check(book.lines().len() == 5)
+        Err(Refusal::NeverGiven)
+    );
+    assert!(rt; book.lines().len() == 5);
+    Ok(())
 }

@@ -1,16 +1,10 @@
 -- The cells of a table.
-use mathlib.Core.Bool.{cond, _&&_}
-use mathlib.Core.List.{List}
-use Prim.Native.Nat.{ℕ, _+_, _*_}
-use lib.Dec.{ltb}
-use lib.ListN.{getD}
-use Rattle·std.specs.declared.option.Option.{Option}
-use Rattle·std.specs.declared.option.Option.the-variants.{Some, None}
+use Rattle.std.specs.Prelude.{ℕ, ◌+◌, ◌*◌, cond, ◌&&◌, List, Some, None, Option, nat_lt, slice_index}
 
 -- the cell (a, b, c)
 abbrev pub cell : List ℕ → ℕ → ℕ → ℕ → ℕ
-cell cells a b c = getD cells (a + 8 * b + 64 * c) 0
+cell cells a b c = slice_index cells (a + 8 * b + 64 * c)
 
 -- the cell (a, b, c), if there is one
-abbrev pub answered-cell : List ℕ → ℕ → ℕ → ℕ → Option ℕ
-answered-cell cells a b c = cond (ltb a 8 && (ltb b 8 && ltb c 8)) (Some (cell cells a b c)) None
+abbrev pub answered_cell : List ℕ → ℕ → ℕ → ℕ → Option ℕ
+answered_cell cells a b c = cond (nat_lt a 8 && (nat_lt b 8 && nat_lt c 8)) (Some (cell cells a b c)) None

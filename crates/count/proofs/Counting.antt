@@ -1,185 +1,175 @@
 -- The loop of the long count, state by state.
-use mathlib.Core.Path.{_≡_, refl, sym, ap, ap₂, subst, fun-ext, _∙_}
-use mathlib.Core.List.{List, [], _∷_}
-use mathlib.Core.Bool.{Bool, true, false, cond, _&&_, _||_}
-use mathlib.Core.Logic.{_⊎_, inl, inr, ⊎-elim}
-use Prim.Native.Nat.{ℕ, zero, suc, _+_, _-_, _*_, _^_, _≤_, _<_}
-use native.Mathlib.Omega.{arith}
-use native.Mathlib.Nat.{zero-add, add-zero}
-use lib.Bits.{bitAnd, and-le-r}
-use lib.Dec.{eqb}
-use lib.ListN.{length, getD, set, replicate, getD-replicate}
-use lib.Seq.{getD-set-same, getD-set-other}
-use Rattle·std.specs.Options.{isSome, Cases}
-use Rattle·std.specs.declared.option.Option.{Option}
-use Rattle·std.specs.declared.option.Option.the-variants.{Some, None}
-use Rattle·std.proofs.shelf.Tests.{cases-eq, cases-lt, cases-bool, eqb-true, eqb-false, eq-eqb, ne-eqb, and-from, and-parts}
-use Rattle·rules.specs.declared.item_type.ItemType.{ItemType}
-use Rattle·rules.specs.declared.item_type.ItemType.the-variants.{One, Two, Three}
-use Rattle·rules.specs.Rules.{Allowed}
-use Rattle·rules.specs.Trees.{State}
-use Rattle·sums.specs.States.{all-failed, put, states, keep, range, count}
-use Rattle·place_set.specs.declared.PlaceSet.{PlaceSet}
-use Rattle·plan.specs.Plans.{Structure}
-use Rattle·place_set.specs.Sets.{bit, members, size, both, Within, Next-below}
-use Rattle·place_set.proofs.Masks.{within-and, and-within}
-use Rattle·cells.specs.Cells.{cell}
-use Rattle·count·specs.declared.by_type.PlacesByType.{PlacesByType}
-use Rattle·count·specs.ByType.{Sorted, some-type}
-use Rattle·sums.specs.ByType.{is-type}
-use Rattle·count·specs.Counts.{of-type, places, places-of, working-in, in-cell, working-states, count-rules}
-use Rattle·count·proofs.Over.{over, count-states}
-use Rattle·count·proofs.Lists.{size-working}
-use Rattle·count·proofs.Subsets.{sum-below, sum-none, sum-more, sum-gap, inside, inner, subset-sum}
-use Rattle·count·proofs.Choosing.{working-bounded}
+use Rattle.std.proofs.Common.{◌≡◌, ℕ, suc, ◌+◌, ◌*◌, ◌^◌, ◌<◌, ◌≤◌, Bool, true, false, cond, ◌&&◌, ◌||◌, eqb, List, [], ◌∷◌, length, get_or, set, replicate, is_some, Some, None, Option, sym, refl, ap, ◌∙◌, ap₂, ⊎_elim, add-zero, zero-add, arith, get_or-set_other, get_or-set_same, MatchOption}
+use mathlib.Core.Path.{fun_ext}
+use lib.Bits.{bit_and, and_le_r}
+use lib.ListN.{get_or-replicate}
+use Rattle.std.proofs.lemmas.Bool.{cases_eq, cases_lt, cases_Bool, eqb-true, eq-eqb, ne_eqb, and_from, and_parts}
+use Rattle.rules.specs.declared.item_type.ItemType.{ItemType}
+use Rattle.rules.specs.declared.item_type.ItemType.TheVariants.{One, Two, Three}
+use Rattle.rules.specs.Rules.{Allowed}
+use Rattle.rules.specs.Trees.{State}
+use Rattle.sums.specs.States.{all_failed, keep, range, count}
+use Rattle.place_set.specs.declared.PlaceSet.{PlaceSet}
+use Rattle.plan.specs.Plans.{Structure}
+use Rattle.place_set.specs.Sets.{bit, members, size, both, Within, NextBelow}
+use Rattle.place_set.proofs.Masks.{within_and, and_within}
+use Rattle.cells.specs.Cells.{cell}
+use Rattle.count.specs.declared.by_type.PlacesByType.{PlacesByType}
+use Rattle.count.specs.ByType.{Sorted, some_type}
+use Rattle.sums.specs.ByType.{is_type}
+use Rattle.count.specs.Counts.{is_of_type, places, places_of, working_in, in_cell, working_states, count_rules}
+use Rattle.count.proofs.Over.{over, count_states}
+use Rattle.count.proofs.Lists.{size_working}
+use Rattle.count.proofs.Subsets.{sum_below, sum_none, sum_more, sum_gap, inner, subset_sum}
+use Rattle.count.proofs.Choosing.{working_bounded}
 
-pub few-from : (p : Structure) → Allowed (count-rules p) → (t : ItemType) → places-of p t ≤ 7
-few-from p a t = ⊎-elim (λ lt. absurd (a .0 (t, lt))) (λ le. le) (cases-lt 7 (places-of p t))
+pub few_from : (p : Structure) → Allowed (count_rules p) → (t : ItemType) → places_of p t ≤ 7
+few_from p a t = ⊎_elim (λ lt. absurd (a.0 (t, lt))) (λ le. le) (cases_lt 7 (places_of p t))
 
 -- 1 for a state of the cell (a, b, c) in which the plan works
 abbrev pub counted : Structure → ℕ → ℕ → ℕ → State → ℕ
-counted p a b c s = cond (p .works s && in-cell p a b c s) 1 0
+counted p a b c s = cond (p.works s && in_cell p a b c s) 1 0
 
 -- the sets that are still to come
 abbrev pub left : Option PlaceSet → (ℕ → ℕ) → ℕ
 left None f = 0
-left (Some s) f = sum-below (suc (s .mask)) f
+left (Some s) f = sum_below (suc s.mask) f
 
 -- how many sets may still come
-abbrev pub to-come : Option PlaceSet → ℕ
-to-come None = 0
-to-come (Some s) = suc (s .mask)
+abbrev pub to_come : Option PlaceSet → ℕ
+to_come None = 0
+to_come (Some s) = suc s.mask
 
 -- the next set is a subset of the whole
 abbrev pub Part : PlaceSet → Option PlaceSet → Type 0
 Part whole None = Unit {0}
-Part whole (Some s) = (s .mask < 2 ^ 16) × Within (members s) (members whole)
+Part whole (Some s) = (s.mask < 2 ^ 16) × Within (members s) (members whole)
 
 -- o is the subset after s, if there is one
 abbrev pub After : PlaceSet → PlaceSet → Option PlaceSet → Type 0
-After whole s o = Cases o (s .mask ≡ 0) (λ t. Next-below whole s t)
+After whole s o = MatchOption o (s.mask ≡ 0) (λ t. NextBelow whole s t)
 
-outside : (m t : ℕ) (f : State → ℕ) → (bitAnd t m ≡ t → ⊥) → inner m f t ≡ 0
-outside m t f no-part = ap (λ b. cond b (f (bit t)) 0) (ne-eqb (bitAnd t m) t no-part)
+outside : (m t : ℕ) (f : State → ℕ) → (bit_and t m ≡ t → ⊥) → inner m f t ≡ 0
+outside m t f no_part = ap (λ b. cond b (f (bit t)) 0) (ne_eqb (bit_and t m) t no_part)
 
 module _ (whole : PlaceSet) where
   -- nothing above the whole is a part of it
-  pub left-all : whole .mask < 2 ^ 16 → (f : State → ℕ) → left (Some whole) (inner (whole .mask) f) ≡ sum-below (2 ^ 16) (inner (whole .mask) f)
-  left-all small f = sym (sum-gap (whole .mask) (2 ^ 16) (inner (whole .mask) f) small (λ t above below. outside (whole .mask) t f (λ part. let le = and-le-r t (whole .mask) in omega arith)))
+  pub left_all : whole.mask < 2 ^ 16 → (f : State → ℕ) → left (Some whole) (inner whole.mask f) ≡ sum_below (2 ^ 16) (inner whole.mask f)
+  left_all small f = sym (sum_gap whole.mask (2 ^ 16) (inner whole.mask f) small (λ t above below. outside whole.mask t f (λ part. let le = and_le_r t whole.mask in omega arith)))
 
-  pub left-more : (s : PlaceSet) (o : Option PlaceSet) → Part whole (Some s) → After whole s o → (f : State → ℕ) → left (Some s) (inner (whole .mask) f) ≡ left o (inner (whole .mask) f) + f (members s)
-  left-more s o part next f =
-      let g = inner (whole .mask) f in
-      let here : g (s .mask) ≡ f (members s) = ap (λ b. cond b (f (members s)) 0) (eq-eqb (bitAnd (s .mask) (whole .mask)) (s .mask) (within-and 16 (s .mask) (whole .mask) (part .0) (part .1))) in
-      sum-more (s .mask) g ∙ ap₂ _+_ (before o next) here
+  pub left_more : (s : PlaceSet) (o : Option PlaceSet) → Part whole (Some s) → After whole s o → (f : State → ℕ) → left (Some s) (inner whole.mask f) ≡ left o (inner whole.mask f) + f (members s)
+  left_more s o part next f =
+      let g = inner whole.mask f in
+      let here : g s.mask ≡ f (members s) = ap (λ b. cond b (f (members s)) 0) (eq-eqb (bit_and s.mask whole.mask) s.mask (within_and 16 s.mask whole.mask part.0 part.1)) in
+      sum_more s.mask g ∙ ap₂ ◌+◌ (before o next) here
     where
-      before : (o : Option PlaceSet) → After whole s o → sum-below (s .mask) (inner (whole .mask) f) ≡ left o (inner (whole .mask) f)
-      before None none = ap (λ n. sum-below n (inner (whole .mask) f)) none ∙ sum-none (inner (whole .mask) f)
+      before : (o : Option PlaceSet) → After whole s o → sum_below s.mask (inner whole.mask f) ≡ left o (inner whole.mask f)
+      before None none = ap (λ n. sum_below n (inner whole.mask f)) none ∙ sum_none (inner whole.mask f)
       before (Some t) next =
-          sum-gap (t .mask) (s .mask) (inner (whole .mask) f) (next .lower)
-          (λ u above below. outside (whole .mask) u f (λ part. let most = next .highest (record { mask = u }) (and-within u (whole .mask) part) below in omega arith))
+          sum_gap t.mask s.mask (inner whole.mask f) next.lower
+          (λ u above below. outside whole.mask u f (λ part. let most = next.highest (record { mask = u }) (and_within u whole.mask part) below in omega arith))
 
-  pub part-more : (s : PlaceSet) (o : Option PlaceSet) → Part whole (Some s) → After whole s o → Part whole o
-  part-more s None part next = tt
-  part-more s (Some t) part next = (let lower = next .lower in let small = part .0 in omega arith, next .subset)
+  pub part_more : (s : PlaceSet) (o : Option PlaceSet) → Part whole (Some s) → After whole s o → Part whole o
+  part_more s None part next = tt
+  part_more s (Some t) part next = (let lower = next.lower in let small = part.0 in omega arith, next.subset)
 
-  pub falls : (s : PlaceSet) (o : Option PlaceSet) → After whole s o → to-come o < to-come (Some s)
+  pub falls : (s : PlaceSet) (o : Option PlaceSet) → After whole s o → to_come o < to_come (Some s)
   falls s None next = omega arith
-  falls s (Some t) next = let lower = next .lower in omega arith
+  falls s (Some t) next = let lower = next.lower in omega arith
 
-pub part-whole : (whole : PlaceSet) → whole .mask < 2 ^ 16 → Part whole (Some whole)
-part-whole whole small = (small, λ i on. on)
+pub part_whole : (whole : PlaceSet) → whole.mask < 2 ^ 16 → Part whole (Some whole)
+part_whole whole small = (small, λ i on. on)
 
 -- the places of some type are the non-empty ones
-any-type : (o : Option ItemType) → ((is-type One o || is-type Two o) || is-type Three o) ≡ isSome o
-any-type None = refl
-any-type (Some One) = refl
-any-type (Some Two) = refl
-any-type (Some Three) = refl
+any_type : (o : Option ItemType) → ((is_type One o || is_type Two o) || is_type Three o) ≡ is_some o
+any_type None = refl
+any_type (Some One) = refl
+any_type (Some Two) = refl
+any_type (Some Three) = refl
 
 module _ (p : Structure) (m : PlacesByType) (sorted : Sorted p m) where
-  pub all-counted : (whole : PlaceSet) → whole .mask < 2 ^ 16 → members whole ≡ some-type m → (a b c : ℕ) → sum-below (2 ^ 16) (inner (whole .mask) (counted p a b c)) ≡ working-states p a b c
+  pub all_counted : (whole : PlaceSet) → whole.mask < 2 ^ 16 → members whole ≡ some_type m → (a b c : ℕ) → sum_below (2 ^ 16) (inner whole.mask (counted p a b c)) ≡ working_states p a b c
   unfolding places
-  all-counted whole small e a b c =
-      let full : members whole ≡ (λ i. isSome (p .types i)) =
-      e ∙ fun-ext (λ i j. (sorted .one j i || sorted .two j i) || sorted .three j i) ∙ fun-ext (λ i. any-type (p .types i)) in
-      subset-sum 16 (whole .mask) small (counted p a b c)
-      ∙ ap (λ q. over (keep q (range 0 16)) all-failed (counted p a b c)) full
-      ∙ sym (count-states (λ s. p .works s && in-cell p a b c s) (keep (λ i. isSome (p .types i)) (range 0 16)) all-failed)
+  all_counted whole small e a b c =
+      let full : members whole ≡ (λ i. is_some (p.types i)) =
+      e ∙ fun_ext (λ i j. (sorted.one j i || sorted.two j i) || sorted.three j i) ∙ fun_ext (λ i. any_type (p.types i)) in
+      subset_sum 16 whole.mask small (counted p a b c)
+      ∙ ap (λ q. over (keep q (range 0 16)) all_failed (counted p a b c)) full
+      ∙ sym (count_states (λ s. p.works s && in_cell p a b c s) (keep (λ i. is_some (p.types i)) (range 0 16)) all_failed)
 
   -- where a state's cell stands
-  abbrev pub place-of : State → ℕ
-  place-of s = working-in p One s + 8 * working-in p Two s + 64 * working-in p Three s
+  abbrev pub place_of : State → ℕ
+  place_of s = working_in p One s + 8 * working_in p Two s + 64 * working_in p Three s
 
-  pub cell-is : (s : State) (i : ℕ) → i ≡ size (both s (members (m .one))) + 8 * size (both s (members (m .two))) + 64 * size (both s (members (m .three))) → i ≡ place-of s
-  cell-is s i e =
-      let one = ap (λ t. size (both s t)) (sorted .one) ∙ size-working p One s in
-      let two = ap (λ t. size (both s t)) (sorted .two) ∙ size-working p Two s in
-      let three = ap (λ t. size (both s t)) (sorted .three) ∙ size-working p Three s in
+  pub cell_is : (s : State) (i : ℕ) → i ≡ size (both s (members m.one)) + 8 * size (both s (members m.two)) + 64 * size (both s (members m.three)) → i ≡ place_of s
+  cell_is s i e =
+      let one = ap (λ t. size (both s t)) sorted.one ∙ size_working p One s in
+      let two = ap (λ t. size (both s t)) sorted.two ∙ size_working p Two s in
+      let three = ap (λ t. size (both s t)) sorted.three ∙ size_working p Three s in
       omega arith
 
-count-part : {A : Type 0} (q f : A → Bool) (xs : List A) → count (λ x. q x && f x) xs ≤ count q xs
-count-part q f [] = omega arith
-count-part q f (x ∷ xs) = at (q x) (f x) (count-part q f xs)
+count_part : {A : Type 0} (q f : A → Bool) (xs : List A) → count (λ x. q x && f x) xs ≤ count q xs
+count_part q f [] = omega arith
+count_part q f (x ∷ xs) = at (q x) (f x) (count_part q f xs)
   where
     at : (v w : Bool) → count (λ x. q x && f x) xs ≤ count q xs → cond (v && w) 1 0 + count (λ x. q x && f x) xs ≤ cond v 1 0 + count q xs
     at true true h = omega arith
     at true false h = omega arith
     at false w h = omega arith
 
-module _ (p : Structure) (few : (t : ItemType) → places-of p t ≤ 7) where
-  pub working-few : (t : ItemType) (s : State) → working-in p t s ≤ 7
-  working-few t s = let le = count-part (of-type p t) s (places p) in let most = few t in omega arith
+module _ (p : Structure) (few : (t : ItemType) → places_of p t ≤ 7) where
+  pub working_few : (t : ItemType) (s : State) → working_in p t s ≤ 7
+  working_few t s = let le = count_part (is_of_type p t) s (places p) in let most = few t in omega arith
 
   abbrev pub index : State → ℕ
-  index s = working-in p One s + 8 * working-in p Two s + 64 * working-in p Three s
+  index s = working_in p One s + 8 * working_in p Two s + 64 * working_in p Three s
 
-  pub index-below : (s : State) → index s < 512
-  index-below s = let one = working-few One s in let two = working-few Two s in let three = working-few Three s in omega arith
+  pub index_below : (s : State) → index s < 512
+  index_below s = let one = working_few One s in let two = working_few Two s in let three = working_few Three s in omega arith
 
-  has-here : (s : State) (a b c : ℕ) → a < 8 → b < 8 → c < 8 → a + 8 * b + 64 * c ≡ index s → in-cell p a b c s ≡ true
-  has-here s a b c la lb lc e =
-      let one = working-few One s in
-      let two = working-few Two s in
-      let three = working-few Three s in
-      and-from (eqb (working-in p One s) a) (eqb (working-in p Two s) b && eqb (working-in p Three s) c) (eq-eqb (working-in p One s) a (omega arith))
-      (and-from (eqb (working-in p Two s) b) (eqb (working-in p Three s) c) (eq-eqb (working-in p Two s) b (omega arith)) (eq-eqb (working-in p Three s) c (omega arith)))
+  has_here : (s : State) (a b c : ℕ) → a < 8 → b < 8 → c < 8 → a + 8 * b + 64 * c ≡ index s → in_cell p a b c s ≡ true
+  has_here s a b c la lb lc e =
+      let one = working_few One s in
+      let two = working_few Two s in
+      let three = working_few Three s in
+      and_from (eqb (working_in p One s) a) (eqb (working_in p Two s) b && eqb (working_in p Three s) c) (eq-eqb (working_in p One s) a (omega arith))
+      (and_from (eqb (working_in p Two s) b) (eqb (working_in p Three s) c) (eq-eqb (working_in p Two s) b (omega arith)) (eq-eqb (working_in p Three s) c (omega arith)))
 
-  has-elsewhere : (s : State) (a b c : ℕ) → (a + 8 * b + 64 * c ≡ index s → ⊥) → in-cell p a b c s ≡ false
-  has-elsewhere s a b c ne = ⊎-elim (λ on. absurd (ne (same on))) (λ off. off) (cases-bool (in-cell p a b c s))
+  has_elsewhere : (s : State) (a b c : ℕ) → (a + 8 * b + 64 * c ≡ index s → ⊥) → in_cell p a b c s ≡ false
+  has_elsewhere s a b c ne = ⊎_elim (λ on. absurd (ne (same on))) (λ off. off) (cases_Bool (in_cell p a b c s))
     where
-      same : in-cell p a b c s ≡ true → a + 8 * b + 64 * c ≡ index s
+      same : in_cell p a b c s ≡ true → a + 8 * b + 64 * c ≡ index s
       same on =
-          let one = and-parts (eqb (working-in p One s) a) (eqb (working-in p Two s) b && eqb (working-in p Three s) c) on in
-          let two = and-parts (eqb (working-in p Two s) b) (eqb (working-in p Three s) c) (one .1) in
-          omega (arith, eqb-true (working-in p One s) a (one .0), eqb-true (working-in p Two s) b (two .0), eqb-true (working-in p Three s) c (two .1))
+          let one = and_parts (eqb (working_in p One s) a) (eqb (working_in p Two s) b && eqb (working_in p Three s) c) on in
+          let two = and_parts (eqb (working_in p Two s) b) (eqb (working_in p Three s) c) one.1 in
+          omega (arith, eqb-true (working_in p One s) a one.0, eqb-true (working_in p Two s) b two.0, eqb-true (working_in p Three s) c two.1)
 
   -- one more state in its cell, and nothing elsewhere
-  pub counts-one : (cells : List ℕ) (s : State) → length cells ≡ 512 → p .works s ≡ true → (i : ℕ) → i ≡ index s → (a b c : ℕ) → a < 8 → b < 8 → c < 8
-      → cell (set cells i (getD cells i 0 + 1)) a b c ≡ cell cells a b c + counted p a b c s
-  counts-one cells s long on i is a b c la lb lc =
+  pub counts_one : (cells : List ℕ) (s : State) → length cells ≡ 512 → p.works s ≡ true → (i : ℕ) → i ≡ index s → (a b c : ℕ) → a < 8 → b < 8 → c < 8
+      → cell (set cells i (get_or cells i 0 + 1)) a b c ≡ cell cells a b c + counted p a b c s
+  counts_one cells s long on i is a b c la lb lc =
       let k = a + 8 * b + 64 * c in
-      let below = index-below s in
-      ⊎-elim
+      let below = index_below s in
+      ⊎_elim
       (λ same.
       let lt : i < length cells = omega arith in
-      let h = has-here s a b c la lb lc (omega arith) in
-      rw (on, h) (ap (λ j. getD (set cells i (getD cells i 0 + 1)) j 0) same ∙ getD-set-same cells i (getD cells i 0 + 1) 0 lt ∙ ap (λ j. getD cells j 0 + 1) (sym same)))
+      let h = has_here s a b c la lb lc (omega arith) in
+      rw (on, h) (ap (λ j. get_or (set cells i (get_or cells i 0 + 1)) j 0) same ∙ get_or-set_same cells i (get_or cells i 0 + 1) 0 lt ∙ ap (λ j. get_or cells j 0 + 1) (sym same)))
       (λ other.
-      let h = has-elsewhere s a b c (λ e. other (omega arith)) in
-      rw (on, h) (getD-set-other cells i k (getD cells i 0 + 1) 0 other ∙ sym (add-zero _)))
-      (cases-eq k i)
+      let h = has_elsewhere s a b c (λ e. other (omega arith)) in
+      rw (on, h) (get_or-set_other cells i k (get_or cells i 0 + 1) 0 other ∙ sym (add-zero _)))
+      (cases_eq k i)
 
-  pub counts-none : (s : State) → p .works s ≡ false → (a b c : ℕ) → counted p a b c s ≡ 0
-  counts-none s off a b c = rw off
+  pub counts_none : (s : State) → p.works s ≡ false → (a b c : ℕ) → counted p a b c s ≡ 0
+  counts_none s off a b c = rw off
 
   -- what a cell holds so far is far from the limit of 16 bits
-  pub cell-room : (cells : List ℕ) (s : State) (i rest : ℕ) → i ≡ index s → cell cells (working-in p One s) (working-in p Two s) (working-in p Three s) + rest ≡ working-states p (working-in p One s) (working-in p Two s) (working-in p Three s)
-      → getD cells i 0 + 1 < 65536
-  cell-room cells s i rest is so-far =
-      let most = working-bounded p few (working-in p One s) (working-in p Two s) (working-in p Three s) in
-      let here = ap (λ j. getD cells j 0) is in
+  pub cell_room : (cells : List ℕ) (s : State) (i rest : ℕ) → i ≡ index s → cell cells (working_in p One s) (working_in p Two s) (working_in p Three s) + rest ≡ working_states p (working_in p One s) (working_in p Two s) (working_in p Three s)
+      → get_or cells i 0 + 1 < 65536
+  cell_room cells s i rest is so_far =
+      let most = working_bounded p few (working_in p One s) (working_in p Two s) (working_in p Three s) in
+      let here = ap (λ j. get_or cells j 0) is in
       omega arith
 
 pub start : (a b c rest : ℕ) → a < 8 → b < 8 → c < 8 → cell (replicate 512 0) a b c + rest ≡ rest
-start a b c rest la lb lc = ap (λ n. n + rest) (getD-replicate 512 (a + 8 * b + 64 * c) 0 0 (omega arith)) ∙ zero-add rest
+start a b c rest la lb lc = ap (λ n. n + rest) (get_or-replicate 512 (a + 8 * b + 64 * c) 0 0 (omega arith)) ∙ zero-add rest

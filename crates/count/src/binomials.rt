@@ -1,12 +1,10 @@
-ghost use mathlib.Core.Path.{_≡_};
-ghost use Prim.Native.Nat.{ℕ, _+_, _*_, _/_, _%_, _≤_, _<_};
-ghost use lib.ListN.{length, getD};
-ghost use Rattle·count·specs.Laws.{Holds, choose};
+ghost use Rattle.std.specs.Prelude.{◌≡◌, ℕ, ◌+◌, ◌*◌, ◌/◌, ◌%◌, ◌<◌, ◌≤◌, length, slice_index};
+ghost use Rattle.count.specs.Laws.{Holds, choose};
 
 // In how many ways 0 to 7 of n places can be chosen: a row of Pascal's triangle.
 fn binomials(n: u32) -> [u16; 8]
-    requires { ⌜ n ≤ 7 ⌝ }
-    ensures { λ r. ⌜ ((k : ℕ) → k < 8 → getD r k 0 ≡ choose n k) ⌝ }
+    requires { n ≤ 7 }
+    ensures { (k : ℕ) → k < 8 → slice_index result k ≡ choose n k }
 {
     let mut row = [1u16, 0, 0, 0, 0, 0, 0, 0];
     // From the binomials of `above` to those of the next number, from the end of the row.
@@ -20,10 +18,10 @@ fn binomials(n: u32) -> [u16; 8]
 
 // In how many ways a, b and c of so many places of types 1, 2 and 3 can be chosen, cell by cell.
 pub fn count_choices(one: u32, two: u32, three: u32) -> [u16; 512]
-    requires ones { ⌜ one ≤ 7 ⌝ }
-    requires twos { ⌜ two ≤ 7 ⌝ }
-    requires threes { ⌜ three ≤ 7 ⌝ }
-    ensures { λ r. ⌜ Holds r (λ a b c. choose one a * choose two b * choose three c) ⌝ }
+    requires ones { one ≤ 7 }
+    requires twos { two ≤ 7 }
+    requires threes { three ≤ 7 }
+    ensures { Holds result (λ a b c. choose one a * choose two b * choose three c) }
 {
     let ones = binomials(one);
     let twos = binomials(two);

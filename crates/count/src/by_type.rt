@@ -1,10 +1,10 @@
-ghost use mathlib.Core.Path.{_≡_};
-ghost use Prim.Native.Nat.{ℕ, _+_, _*_, _≤_, _<_};
-ghost use Rattle·rules.specs.Rules.{Decided};
-ghost use Rattle·place_set.specs.Sets.{members, both, size};
-ghost use Rattle·sums.specs.ByType.{«is-type»};
-ghost use Rattle·count·specs.Counts.{«of-type», «count-rules»};
-ghost use Rattle·count·specs.ByType.{Sorted, «some-type»};
+ghost use Rattle.std.specs.Prelude.{◌≡◌, ℕ, ◌+◌, ◌*◌, ◌<◌, ◌≤◌};
+ghost use Rattle.rules.specs.Rules.{Decided};
+ghost use Rattle.place_set.specs.Sets.{members, both, size};
+ghost use Rattle.sums.specs.ByType.{is_type};
+ghost use Rattle.count.specs.Counts.{is_of_type, count_rules};
+ghost use Rattle.count.specs.ByType.{Sorted, some_type};
+
 use place_set::PlaceSet;
 use plan::Plan;
 use rules::item_type::ItemType;
@@ -19,7 +19,7 @@ pub struct PlacesByType {
 }
 
 fn is_type(wanted: ItemType, found: Option<ItemType>) -> bool
-    ensures { λ r. ⌜ r ≡ «is-type» wanted found ⌝ }
+    ensures { result ≡ is_type wanted found }
 {
     match found {
         Some(item_type) => item_type.number() == wanted.number(),
@@ -28,7 +28,7 @@ fn is_type(wanted: ItemType, found: Option<ItemType>) -> bool
 }
 
 fn places_of_type<P: Plan>(plan: &P, item_type: ItemType) -> PlaceSet
-    ensures { λ r. ⌜ members r ≡ «of-type» (P·Plan .meaning (now (plan .entry))) «item_type» ⌝ }
+    ensures { members result ≡ is_of_type (P.Plan.meaning plan.now) item_type }
 {
     let mut found = PlaceSet::from_mask(0);
     for place in 0..16u8 {
@@ -41,7 +41,7 @@ fn places_of_type<P: Plan>(plan: &P, item_type: ItemType) -> PlaceSet
 
 // The places of a plan that has at most 7 places of each type.
 pub fn places_by_type<P: Plan>(plan: &P) -> Result<PlacesByType, Refusal>
-    ensures { λ r. ⌜ Decided («count-rules» (P·Plan .meaning (now (plan .entry)))) (λ places. Sorted (P·Plan .meaning (now (plan .entry))) places) r ⌝ }
+    ensures { Decided (count_rules (P.Plan.meaning plan.now)) (λ places. Sorted (P.Plan.meaning plan.now) places) result }
 {
     let one = places_of_type(plan, ItemType::One);
     let two = places_of_type(plan, ItemType::Two);
@@ -54,14 +54,14 @@ pub fn places_by_type<P: Plan>(plan: &P) -> Result<PlacesByType, Refusal>
 
 impl PlacesByType {
     pub fn all(self) -> PlaceSet
-        ensures { λ r. ⌜ members r ≡ «some-type» self ⌝ }
+        ensures { members result ≡ some_type self }
     {
         self.one.union(self.two).union(self.three)
     }
 
     // Where the cell of a state stands in a table.
     pub fn cell(self, state: PlaceSet) -> usize
-        ensures { λ r. ⌜ r ≡ size (both (members state) (members (self .one))) + 8 * size (both (members state) (members (self .two))) + 64 * size (both (members state) (members (self .three))) ⌝ }
+        ensures { result ≡ size (both (members state) (members self.one)) + 8 * size (both (members state) (members self.two)) + 64 * size (both (members state) (members self.three)) }
     {
         let one = state.intersection(self.one).len() as usize;
         let two = state.intersection(self.two).len() as usize;

@@ -1,9 +1,12 @@
+#![tactic(auto)]
+
 mod binomials;
 mod by_type;
 pub mod laws;
 mod states;
 
-ghost use Rattle·count·specs.Laws.{«Count-ruled», «Totals-ruled»};
+ghost use Rattle.count.specs.Laws.{CountRuled, TotalsRuled};
+
 use binomials::count_choices;
 use by_type::places_by_type;
 use cells::table::CellTable;
@@ -15,7 +18,7 @@ use states::count_working_states;
 // (a, b, c) for those with a, b and c places of types 1, 2 and 3 working. It tries each state once.
 // A plan with more than 7 places of one type is refused, and the table stays as it was.
 pub fn long_count<P: Plan>(plan: &P, table: &mut CellTable) -> Result<(), Refusal>
-    ensures { λ r. ⌜ «Count-ruled» (P·Plan .meaning (now (plan .entry))) (now (table .entry)) r (now (table .exit)) ⌝ }
+    ensures { CountRuled (P.Plan.meaning plan.now) table.old result table.new }
 {
     let places = places_by_type(plan)?;
     *table = CellTable::new(count_working_states(plan, places));
@@ -25,7 +28,7 @@ pub fn long_count<P: Plan>(plan: &P, table: &mut CellTable) -> Result<(), Refusa
 // Fills the table with the numbers of all such states, whether the plan works or not. The refusal is
 // that of the long count.
 pub fn totals<P: Plan>(plan: &P, table: &mut CellTable) -> Result<(), Refusal>
-    ensures { λ r. ⌜ «Totals-ruled» (P·Plan .meaning (now (plan .entry))) (now (table .entry)) r (now (table .exit)) ⌝ }
+    ensures { TotalsRuled (P.Plan.meaning plan.now) table.old result table.new }
 {
     let places = places_by_type(plan)?;
     let (one, two, three) = (places.one.len(), places.two.len(), places.three.len());
@@ -37,54 +40,52 @@ pub fn totals<P: Plan>(plan: &P, table: &mut CellTable) -> Result<(), Refusal>
 mod tests {
     use super::*;
     use place_set::PlaceSet;
-    use plan::lockout::LockedPlace;
-    use plan::lockout::Lockout;
-    use plan::lockout::LockoutPlan;
+    use plan::lockout::{LockedPlace, Lockout};
     use plan::mirror::Mirror;
-    use plan::mirror::MirrorPlan;
     use plan::path_list::PathList;
-    use plan::path_list::PathListPlan;
-    use rules::refusal::RefusalDebug;
-    use std::test::*;
+    use std::process::Abort;
+    use std::test::Fail;
 
     const NUMBERS: [u8; 16] = [1, 1, 2, 0, 0, 0, 0, 0, 0, 0, 0, 0, 0, 0, 0, 0];
 
     // The cells (2, 0, 0), (0, 1, 0), (1, 1, 0) and (2, 1, 0).
-    fn check_cells(table: &CellTable, expected: [u16; 4]) -> Result<(), Fail> {
-        check_eq(table.cell(2, 0, 0), Some(expected[0]))?;
-        check_eq(table.cell(0, 1, 0), Some(expected[1]))?;
-        check_eq(table.cell(1, 1, 0), Some(expected[2]))?;
-        check_eq(table.cell(2, 1, 0), Some(expected[3]))
+    fn check_cells(rt: &impl Abort, table: &CellTable, expected: [u16; 4]) {
+        assert_eq!(rt; table.cell(2, 0, 0), Some(expected[0]));
+        assert_eq!(rt; table.cell(0, 1, 0), Some(expected[1]));
+        assert_eq!(rt; table.cell(1, 1, 0), Some(expected[2]));
+        assert_eq!(rt; table.cell(2, 1, 0), Some(expected[3]));
     }
 
     // The paths {0, 1} and {2}; mirrored; and with the place 2 locked out.
     #[test]
-    fn counts(rt: LibcRuntime) -> Result<(), Fail> {
+    fn counts(rt: HostRuntime) -> Result<(), Fail> {
         let paths = [PlaceSet::from_mask(3), PlaceSet::from_mask(4)].to_vec(rt.alloc())?;
         let list = PathList::new(NUMBERS, paths)?;
         let mut table = CellTable::new([9; 512]);
         long_count(&list, &mut table)?;
-        check_cells(&table, [1, 1, 2, 1])?;
+        check_cells(&rt, &table, [1, 1, 2, 1]);
         let mirror = Mirror { plan: list };
         long_count(&mirror, &mut table)?;
-        check_cells(&table, [0, 0, 2, 1])?;
+        check_cells(&rt, &table, [0, 0, 2, 1]);
         let Mirror { plan: list } = mirror;
         let locked = LockedPlace::new(2)?;
         let lockout = Lockout { plan: list, locked };
         long_count(&lockout, &mut table)?;
-        check_cells(&table, [1, 0, 0, 1])?;
+        check_cells(&rt, &table, [1, 0, 0, 1]);
         totals(&lockout, &mut table)?;
-        check_cells(&table, [1, 1, 2, 1])?;
-        check_eq(table.cell(3, 0, 0), Some(0))
+        check_cells(&rt, &table, [1, 1, 2, 1]);
+        assert_eq!(rt; table.cell(3, 0, 0), Some(0));
+        Ok(())
     }
 
     #[test]
-    fn refusal(rt: LibcRuntime) -> Result<(), Fail> {
+    fn refusal(rt: HostRuntime) -> Result<(), Fail> {
         let paths = [PlaceSet::from_mask(1)].to_vec(rt.alloc())?;
         let list = PathList::new([3; 16], paths)?;
         let mut table = CellTable::new([9; 512]);
-        check(long_count(&list, &mut table).is_err())?;
-        check(totals(&list, &mut table).is_err())?;
-        check_eq(table.cell(7, 7, 7), Some(9))
+        assert!(rt; long_count(&list, &mut table).is_err());
+        assert!(rt; totals(&list, &mut table).is_err());
+        assert_eq!(rt; table.cell(7, 7, 7), Some(9));
+        Ok(())
     }
 }

@@ -1,4 +1,3 @@
 pub mod Places
-pub mod Laws
 pub mod Trees
 pub mod Picking

@@ -1,3 +1,4 @@
 pub mod Items
 pub mod Beneath
 pub mod Meanings
+pub mod MeaningsLemmas

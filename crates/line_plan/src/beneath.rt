@@ -1,14 +1,12 @@
-ghost use mathlib.Core.Path.{_≡_};
-ghost use mathlib.Core.Bool.{true};
-ghost use Rattle·std.specs.Options.{isSome};
-ghost use Rattle·rules.specs.History.{History, standing, has};
-ghost use Rattle·rules.specs.Trees.{items as beneath, works};
-ghost use Rattle·place_set.specs.Sets.{members};
-ghost use Rattle·book.specs.Keeps.{Keeps};
-ghost use Rattle·line_plan·specs.Items.{listed, state-of};
-ghost use Rattle·line_plan·specs.Beneath.{stands-and, Items-beneath};
-use crate::item_list::ItemList;
-use crate::item_list::TypedItem;
+ghost use Rattle.std.specs.Prelude.{◌≡◌, true, is_some};
+ghost use Rattle.rules.specs.History.{History, standing, has};
+ghost use Rattle.rules.specs.Trees.{items as beneath, works};
+ghost use Rattle.place_set.specs.Sets.{members};
+ghost use Rattle.book.specs.Keeps.{Keeps};
+ghost use Rattle.line_plan.specs.Items.{listed, state_of};
+ghost use Rattle.line_plan.specs.Beneath.{stands_and, ItemsBeneath};
+
+use crate::item_list::{ItemList, TypedItem};
 use book::book::Book;
 use place_set::PlaceSet;
 use rules::kind::Kind;
@@ -17,7 +15,7 @@ use rules::part_number::PartNumber;
 
 // Whether the line stands and works, where each item of the list is as the set has its place.
 pub fn line_works(book: &Book, number: PartNumber, items: &ItemList, state: PlaceSet) -> bool
-    ensures { λ r. ⌜ ((h : History) → Keeps h (now (book .entry)) → r ≡ stands-and h (number .value) (λ x. works x (state-of (listed (now (items .entry))) (members state)))) ⌝ }
+    ensures { (h : History) → Keeps h book.now → result ≡ stands_and h number.value (λ x. works x (state_of (listed items.now) (members state))) }
 {
     match book.question(number) {
         Ok(line) => match line.part {
@@ -36,7 +34,7 @@ pub fn line_works(book: &Book, number: PartNumber, items: &ItemList, state: Plac
 
 // Whether the line stands and the item lies beneath it.
 fn lies_beneath(book: &Book, number: PartNumber, item: PartNumber) -> bool
-    ensures { λ r. ⌜ ((h : History) → Keeps h (now (book .entry)) → r ≡ stands-and h (number .value) (λ x. has (beneath x) (item .value))) ⌝ }
+    ensures { (h : History) → Keeps h book.now → result ≡ stands_and h number.value (λ x. has (beneath x) item.value) }
 {
     match book.question(number) {
         Ok(line) => match line.part {
@@ -49,8 +47,8 @@ fn lies_beneath(book: &Book, number: PartNumber, item: PartNumber) -> bool
 
 // The items beneath a line that stands, in rising number.
 pub fn items_beneath(book: &Book, number: PartNumber) -> ItemList
-    requires { ⌜ ((h : History) → Keeps h (now book) → isSome (standing h (number .value)) ≡ true) ⌝ }
-    ensures { λ r. ⌜ ((h : History) → Keeps h (now (book .entry)) → Items-beneath h (number .value) (listed r)) ⌝ }
+    requires { (h : History) → Keeps h book.now → is_some (standing h number.value) ≡ true }
+    ensures { (h : History) → Keeps h book.now → ItemsBeneath h number.value (listed result) }
 {
     let lines = book.lines();
     let mut items = ItemList::empty();

@@ -1,8 +1,7 @@
 mod access;
 
-ghost use mathlib.Core.Path.{_≡_};
-ghost use Prim.Native.Nat.{_≤_};
-ghost use lib.ListN.{length};
+ghost use Rattle.std.specs.Prelude.{◌≡◌, ◌≤◌, length};
+
 use rules::item_type::ItemType;
 use rules::part_number::PartNumber;
 

@@ -1,14 +1,17 @@
+#![tactic(auto)]
+
 mod beneath;
 mod item_list;
 #[cfg(test)]
 mod tests;
 
-ghost use Rattle·rules.specs.History.{History};
-ghost use Rattle·plan.specs.LinePlans.{Plan-ruled};
-ghost use Rattle·book.specs.Keeps.{Keeps};
-ghost use Rattle·line_plan·specs.Meanings.{plan-meant, plan-answer};
-use beneath::items_beneath;
-use beneath::line_works;
+ghost use Rattle.rules.specs.History.{History};
+ghost use Rattle.plan.specs.LinePlans.{PlanRuled};
+ghost use Rattle.book.specs.Keeps.{Keeps};
+ghost use Rattle.line_plan.specs.Meanings.{plan_meant, plan_answer};
+ghost use Rattle.line_plan.specs.MeaningsLemmas.{meant_lawful};
+
+use beneath::{items_beneath, line_works};
 use book::book::Book;
 use item_list::ItemList;
 use place_set::PlaceSet;
@@ -29,7 +32,7 @@ pub struct LinePlan<'a> {
 impl<'a> LinePlan<'a> {
     // The plan of the line with the number. Refused with 15 and 16, as a question about the line is.
     pub fn new(book: &'a Book, number: PartNumber) -> Result<LinePlan<'a>, Refusal>
-        ensures { λ r. ⌜ ((h : History) → Keeps h (now (book .entry)) → Plan-ruled h (number .value) (plan-answer r)) ⌝ }
+        ensures { (h : History) → Keeps h book.now → PlanRuled h number.value (plan_answer result) }
     {
         let _line = book.question(number)?;
         let items = items_beneath(book, number);
@@ -41,8 +44,10 @@ impl<'a> LinePlan<'a> {
     }
 }
 
-pub impl<'a> Plan for LinePlan<'a> as LinePlanPlan {
-    ghost meaning = { plan-meant };
+impl<'a> Plan for LinePlan<'a> {
+    ghost meaning = { plan_meant };
+
+    ghost lawful = { meant_lawful };
 
     fn item_type(&self, place: u8) -> Option<ItemType> {
         self.items.item_type(place)

@@ -1,16 +1,12 @@
 use crate::LinePlan;
-use crate::LinePlanPlan;
 use book::book::Book;
 use place_set::PlaceSet;
 use plan::Plan;
 use rules::item_type::ItemType;
-use rules::item_type::ItemTypePartialEq;
 use rules::kind::Kind;
 use rules::part_number::PartNumber;
 use rules::refusal::Refusal;
-use rules::refusal::RefusalDebug;
-use rules::refusal::RefusalPartialEq;
-use std::test::*;
+use std::test::Fail;
 
 fn n(value: u32) -> PartNumber {
     PartNumber::new(value)
@@ -42,7 +38,7 @@ fn is_refused(made: Result<LinePlan<'_>, Refusal>, refusal: Refusal) -> bool {
 
 // Items 1 and 2 of type 1, item 3 of type 2, series 4 over 1 and 2, parallel 5 over 4 and 3.
 #[test]
-fn five_lines(rt: LibcRuntime) -> Result<(), Fail> {
+fn five_lines(rt: HostRuntime) -> Result<(), Fail> {
     let mut book = Book::new(rt.alloc())?;
     let _ = book.issue(1);
     let _ = book.issue(1);
@@ -56,16 +52,17 @@ fn five_lines(rt: LibcRuntime) -> Result<(), Fail> {
         Some(ItemType::Two),
         None,
     ];
-    check(is_plan(&plan, types, 0b1111_1000))?;
-    check(is_refused(LinePlan::new(&book, n(0)), Refusal::NeverGiven))?;
-    check(is_refused(LinePlan::new(&book, n(6)), Refusal::NeverGiven))?;
+    assert!(rt; is_plan(&plan, types, 0b1111_1000));
+    assert!(rt; is_refused(LinePlan::new(&book, n(0)), Refusal::NeverGiven));
+    assert!(rt; is_refused(LinePlan::new(&book, n(6)), Refusal::NeverGiven));
     let _ = book.withdraw(n(5));
-    check(is_refused(LinePlan::new(&book, n(5)), Refusal::Withdrawn))
+    assert!(rt; is_refused(LinePlan::new(&book, n(5)), Refusal::Withdrawn));
+    Ok(())
 }
 
 // The block 4 is over 3 and 1, in this order, and 5 over 4 and 2: the places go by number.
 #[test]
-fn rising_order(rt: LibcRuntime) -> Result<(), Fail> {
+fn rising_order(rt: HostRuntime) -> Result<(), Fail> {
     let mut book = Book::new(rt.alloc())?;
     let _ = book.issue(1);
     let _ = book.issue(2);
@@ -74,7 +71,7 @@ fn rising_order(rt: LibcRuntime) -> Result<(), Fail> {
     let _ = book.join(Kind::Parallel, n(4), n(2));
     let block = LinePlan::new(&book, n(4))?;
     let types = [Some(ItemType::One), Some(ItemType::Three), None, None];
-    check(is_plan(&block, types, 0b1000_1000))?;
+    assert!(rt; is_plan(&block, types, 0b1000_1000));
     let plan = LinePlan::new(&book, n(5))?;
     let types = [
         Some(ItemType::One),
@@ -82,12 +79,13 @@ fn rising_order(rt: LibcRuntime) -> Result<(), Fail> {
         Some(ItemType::Three),
         None,
     ];
-    check(is_plan(&plan, types, 0b1110_1100))
+    assert!(rt; is_plan(&plan, types, 0b1110_1100));
+    Ok(())
 }
 
 // Sixteen items in series.
 #[test]
-fn sixteen_items(rt: LibcRuntime) -> Result<(), Fail> {
+fn sixteen_items(rt: HostRuntime) -> Result<(), Fail> {
     let mut book = Book::new(rt.alloc())?;
     for number in 0..16 {
         let _ = book.issue(number / 7 + 1);
@@ -97,8 +95,9 @@ fn sixteen_items(rt: LibcRuntime) -> Result<(), Fail> {
         line = book.join(Kind::Series, line, n(number))?;
     }
     let plan = LinePlan::new(&book, line)?;
-    check(plan.item_type(15) == Some(ItemType::Three))?;
-    check(plan.item_type(16) == None)?;
-    check(plan.works(PlaceSet::from_mask(0xffff)))?;
-    check(!plan.works(PlaceSet::from_mask(0x7fff)))
+    assert!(rt; plan.item_type(15) == Some(ItemType::Three));
+    assert!(rt; plan.item_type(16) == None);
+    assert!(rt; plan.works(PlaceSet::from_mask(0xffff)));
+    assert!(rt; !plan.works(PlaceSet::from_mask(0x7fff)));
+    Ok(())
 }

@@ -1,23 +1,22 @@
+#![tactic(auto)]
+
 use book::book::Book;
 use rules::part_number::PartNumber;
 use sheet::entering::enter;
 use sheet::fault::Fault;
-use std::error::AnyError;
 use std::io;
 use std::io::Read;
-use survey::bench::Bench;
-use survey::bench::Sums;
+use survey::bench::{Bench, Sums};
 use survey::items::items_beneath;
 use survey::survey;
 use tally::count::Count;
-use tally::count::CountTally;
 use tally::state_count::StateCount;
 
 // One byte more than a sheet may have, so that a longer one is seen to be too long.
 const MOST_BYTES: u64 = 1025;
 
 // Reads a sheet into a new book, and prints the states of each free line, or why the sheet is refused.
-fn main(rt: LibcRuntime) -> Result<(), AnyError> {
+fn main(rt: HostRuntime) -> anyhow::Result<()> {
     let mut text = Vec::new(rt.alloc());
     rt.stdin().take(MOST_BYTES).read_to_end(&mut text)?;
     let mut book = Book::new(rt.alloc())?;
@@ -33,14 +32,11 @@ fn print_fault(rt: &impl Print, fault: &Fault) -> io::Result<()> {
     let line = fault.line;
     let place = fault.place;
     let number = fault.number;
-    println!(
-        rt,
-        "refused {refusal} line {line} place {place} number {number}"
-    )
+    println!(rt; "refused {refusal} line {line} place {place} number {number}")
 }
 
 fn print_book(rt: &impl Print, book: &Book) -> io::Result<()> {
-    println!(rt, "line items work fail")?;
+    println!(rt; "line items work fail")?;
     let nothing = Sums {
         working: StateCount::new(0),
         failing: StateCount::new(0),
@@ -74,5 +70,5 @@ fn print_line(
     };
     let work = sums.working.get();
     let fail = sums.failing.get();
-    println!(rt, "{line} {items} {work} {fail}")
+    println!(rt; "{line} {items} {work} {fail}")
 }

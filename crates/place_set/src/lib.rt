@@ -1,9 +1,8 @@
-ghost use mathlib.Core.Path.{_≡_};
-ghost use mathlib.Core.Bool.{Bool, true, false};
-ghost use Prim.Native.Nat.{ℕ, _+_, _-_, _*_, _/_, _%_, _^_, _<_, _≤_};
-ghost use Rattle·std.specs.Options.{Cases};
-ghost use Rattle·sums.specs.States.{put};
-ghost use Rattle·place_set·specs.Sets.{bit, members, adding, either, both, less, others, size, Within, «Next-below»};
+#![tactic(auto)]
+
+ghost use Rattle.std.specs.Prelude.{◌≡◌, ℕ, ◌+◌, ◌-◌, ◌*◌, ◌/◌, ◌%◌, ◌^◌, ◌<◌, ◌≤◌, Bool, true, false, MatchOption};
+ghost use Rattle.sums.specs.States.{put};
+ghost use Rattle.place_set.specs.Sets.{bit, members, adding, either, both, less, others, size, Within, NextBelow};
 
 // A set of the places 0 to 15: bit i of the mask for the place i. A higher place is in no set.
 #[derive(Clone, Copy, PartialEq, Eq, Debug)]
@@ -13,20 +12,20 @@ pub struct PlaceSet {
 
 impl PlaceSet {
     pub fn from_mask(mask: u16) -> PlaceSet
-        ensures { λ r. ⌜ r .mask ≡ mask ⌝ }
+        ensures { result.mask ≡ mask }
     {
         PlaceSet { mask }
     }
 
     pub fn contains(self, place: u8) -> bool
-        ensures { λ r. ⌜ r ≡ members self place ⌝ }
+        ensures { result ≡ members self place }
     {
         place < 16 && (self.mask >> place) & 1 == 1
     }
 
     // The set and the place; the set itself where the place is above 15.
     pub fn with(self, place: u8) -> PlaceSet
-        ensures { λ r. ⌜ members r ≡ adding place (members self) ⌝ }
+        ensures { members result ≡ adding place (members self) }
     {
         if place < 16 {
             PlaceSet {
@@ -38,7 +37,7 @@ impl PlaceSet {
     }
 
     pub fn without(self, place: u8) -> PlaceSet
-        ensures { λ r. ⌜ members r ≡ put place false (members self) ⌝ }
+        ensures { members result ≡ put place false (members self) }
     {
         if place < 16 {
             PlaceSet {
@@ -50,7 +49,7 @@ impl PlaceSet {
     }
 
     pub fn union(self, other: PlaceSet) -> PlaceSet
-        ensures { λ r. ⌜ members r ≡ either (members self) (members other) ⌝ }
+        ensures { members result ≡ either (members self) (members other) }
     {
         PlaceSet {
             mask: self.mask | other.mask,
@@ -58,7 +57,7 @@ impl PlaceSet {
     }
 
     pub fn intersection(self, other: PlaceSet) -> PlaceSet
-        ensures { λ r. ⌜ members r ≡ both (members self) (members other) ⌝ }
+        ensures { members result ≡ both (members self) (members other) }
     {
         PlaceSet {
             mask: self.mask & other.mask,
@@ -66,7 +65,7 @@ impl PlaceSet {
     }
 
     pub fn difference(self, other: PlaceSet) -> PlaceSet
-        ensures { λ r. ⌜ members r ≡ less (members self) (members other) ⌝ }
+        ensures { members result ≡ less (members self) (members other) }
     {
         PlaceSet {
             mask: self.mask & !other.mask,
@@ -75,20 +74,20 @@ impl PlaceSet {
 
     // The places 0 to 15 that are not in the set.
     pub fn complement(self) -> PlaceSet
-        ensures { λ r. ⌜ members r ≡ others (members self) ⌝ }
+        ensures { members result ≡ others (members self) }
     {
         PlaceSet { mask: !self.mask }
     }
 
     pub fn is_empty(self) -> bool
-        ensures none { λ r. ⌜ (r ≡ true → (i : ℕ) → members self i ≡ false) ⌝ }
-        ensures some { λ r. ⌜ (r ≡ false → (i : ℕ) × (members self i ≡ true)) ⌝ }
+        ensures none { result ≡ true → (i : ℕ) → members self i ≡ false }
+        ensures some { result ≡ false → (i : ℕ) × (members self i ≡ true) }
     {
         self.mask == 0
     }
 
     pub fn len(self) -> u32
-        ensures { λ r. ⌜ r ≡ size (members self) ⌝ }
+        ensures { result ≡ size (members self) }
     {
         self.mask.count_ones()
     }
@@ -96,7 +95,7 @@ impl PlaceSet {
     // After this subset of `whole` the next one, in falling order of masks; None after the empty set.
     // From `whole` itself on, this comes to each of its subsets once.
     pub fn next_subset(self, whole: PlaceSet) -> Option<PlaceSet>
-        ensures { λ r. ⌜ (Within (members self) (members whole) → Cases r (self .mask ≡ 0) (λ t. «Next-below» whole self t)) ⌝ }
+        ensures { Within (members self) (members whole) → MatchOption result (self.mask ≡ 0) (λ t. NextBelow whole self t) }
     {
         match self.mask.checked_sub(1) {
             Some(below) => Some(PlaceSet {

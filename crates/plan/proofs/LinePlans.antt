@@ -1,65 +1,59 @@
 -- The plan of a standing line keeps the laws of plans.
-use mathlib.Core.Path.{_≡_, sym, ap, _∙_}
-use mathlib.Core.Bool.{true}
-use Prim.Native.Nat.{ℕ, _<_, _≤_}
-use native.Mathlib.Omega.{arith}
-use lib.ListN.{length, getD}
-use Rattle·std.specs.Options.{isSome}
-use Rattle·std.specs.declared.option.Option.the-variants.{None}
-use Rattle·std.proofs.shelf.Lists.{getD-past}
-use Rattle·std.proofs.shelf.Tests.{both-ways}
-use Rattle·rules.specs.History.{History, standing}
-use Rattle·rules.specs.Ruled.{Lawful}
-use Rattle·rules.specs.Trees.{items, tree-of, type-at, type-in}
-use Rattle·rules.proofs.Sound.{sound}
-use Rattle·sums.specs.Members.{_∈_, Alike, Distinct}
-use Rattle·sums.specs.Order.{place-of, placed}
-use Rattle·sums.specs.Places.{rising-in, Line-placed}
-use Rattle·sums.proofs.Forest.{trees-stand, few-beneath}
-use Rattle·sums.proofs.Listed.{works-agree, works-more}
-use Rattle·sums.proofs.Members.{once-distinct}
-use Rattle·sums.proofs.Numbers.{numbers, numbers-semiring}
-use Rattle·sums.proofs.Order.{length-order, place-getD, getD-in}
-use Rattle·sums.proofs.Places.{places-stand}
-use Rattle·sums.proofs.Rising.{rising-distinct}
-use Rattle·plan·specs.Plans.{Lawful-plan}
-use Rattle·plan·specs.LinePlans.{line-plan}
+use Rattle.std.proofs.Common.{◌≡◌, ℕ, ◌<◌, ◌≤◌, true, length, get_or, is_some, None, sym, ap, ◌∙◌, arith}
+use Rattle.std.proofs.lemmas.List.{get_or_past}
+use Rattle.std.proofs.lemmas.Bool.{both_ways}
+use Rattle.rules.specs.History.{History, standing}
+use Rattle.rules.specs.Ruled.{Lawful}
+use Rattle.rules.specs.Trees.{items, tree_of, type_at, type_in}
+use Rattle.rules.proofs.Sound.{sound}
+use Rattle.sums.specs.Members.{◌∈◌, Alike, Distinct}
+use Rattle.sums.specs.Order.{place_of, placed}
+use Rattle.sums.specs.Places.{rising_in, LinePlaced}
+use Rattle.sums.proofs.Forest.{trees_stand_lem, few_beneath}
+use Rattle.sums.proofs.Listed.{works_agree, works_more}
+use Rattle.sums.proofs.Members.{once_distinct}
+use Rattle.sums.proofs.Numbers.{numbers, numbers_semiring}
+use Rattle.sums.proofs.Order.{length_order, place_getD, getD_in}
+use Rattle.sums.proofs.Places.{places_stand_lem}
+use Rattle.sums.proofs.Rising.{rising_distinct}
+use Rattle.plan.specs.Plans.{LawfulPlan}
+use Rattle.plan.specs.LinePlans.{plan_of_line}
 
-module _ (h : History) (l : Lawful h) (n : ℕ) (on : isSome (standing h n) ≡ true) where
-  by-number : Line-placed (numbers (λ _. 0) (λ _. 0)) h n
-  by-number = places-stand (numbers-semiring (λ _. 0) (λ _. 0)) h l n on
+module _ (h : History) (l : Lawful h) (n : ℕ) (on : is_some (standing h n) ≡ true) where
+  by_number : LinePlaced (numbers (λ _. 0) (λ _. 0)) h n
+  by_number = places_stand_lem (numbers_semiring (λ _. 0) (λ _. 0)) h l n on
 
   -- the items beneath the line, in rising number
-  pub rising-alike : Alike (rising-in h n) (items (tree-of h n))
-  rising-alike = by-number .alike
+  pub rising_alike : Alike (rising_in h n) (items (tree_of h n))
+  rising_alike = by_number.alike
 
-  pub rising-in-distinct : Distinct (rising-in h n)
-  rising-in-distinct = rising-distinct (rising-in h n) (by-number .rising)
+  pub rising_in_distinct : Distinct (rising_in h n)
+  rising_in_distinct = rising_distinct (rising_in h n) by_number.rising
 
-  pub few-rising : length (rising-in h n) ≤ 16
-  few-rising =
+  pub few_rising : length (rising_in h n) ≤ 16
+  few_rising =
       omega (
         arith,
-        few-beneath h l n on,
-        length-order (rising-in h n) (items (tree-of h n)) rising-in-distinct (once-distinct (tree-of h n) (trees-stand h l n on .once)) rising-alike,
+        few_beneath h l n on,
+        length_order (rising_in h n) (items (tree_of h n)) rising_in_distinct (once_distinct (tree_of h n) (trees_stand_lem h l n on).once) rising_alike,
       )
 
-  typed : (i : ℕ) → i ∈ rising-in h n → isSome (type-in h i) ≡ true
-  typed i m = ap isSome (trees-stand h l n on .typed i (rising-alike i .0 m) .1)
+  typed : (i : ℕ) → i ∈ rising_in h n → is_some (type_in h i) ≡ true
+  typed i m = ap is_some ((trees_stand_lem h l n on).typed i ((rising_alike i).0 m)).1
 
   -- the first places have them, and no other place has anything
-  pub place-filled : (p : ℕ) → p < length (rising-in h n) → isSome (line-plan h n .types p) ≡ true
-  place-filled p lt = typed (getD (rising-in h n) p 0) (getD-in (rising-in h n) p lt)
+  pub place_filled : (p : ℕ) → p < length (rising_in h n) → is_some ((plan_of_line h n).types p) ≡ true
+  place_filled p lt = typed (get_or (rising_in h n) p 0) (getD_in (rising_in h n) p lt)
 
-  pub place-empty : (p : ℕ) → length (rising-in h n) ≤ p → line-plan h n .types p ≡ None
-  place-empty p le = ap (type-in h) (getD-past (rising-in h n) p 0 le) ∙ ap type-at (sound h l .at-zero)
+  pub place_empty : (p : ℕ) → length (rising_in h n) ≤ p → (plan_of_line h n).types p ≡ None
+  place_empty p le = ap (type_in h) (get_or_past (rising_in h n) p 0 le) ∙ ap type_at (sound h l).at_zero
 
-  pub line-plan-lawful : Lawful-plan (line-plan h n)
-  line-plan-lawful = record {
-    monotone = λ s t more. works-more (tree-of h n) (placed (rising-in h n) s) (placed (rising-in h n) t) (λ i. more (place-of (rising-in h n) i));
-    empty = λ s t same. works-agree (tree-of h n) (placed (rising-in h n) s) (placed (rising-in h n) t)
-        (λ i m. same (place-of (rising-in h n) i) (λ none. both-ways (isSome (type-in h i))
-        (sym (ap (λ j. isSome (type-in h j)) (place-getD (rising-in h n) i (rising-alike i .1 m))) ∙ ap isSome none)
-        (typed i (rising-alike i .1 m))));
-    above = λ p le. place-empty p (omega (arith, few-rising));
+  pub line_plan_lawful : LawfulPlan (plan_of_line h n)
+  line_plan_lawful = record {
+    monotone = λ s t more. works_more (tree_of h n) (placed (rising_in h n) s) (placed (rising_in h n) t) (λ i. more (place_of (rising_in h n) i));
+    empty = λ s t same. works_agree (tree_of h n) (placed (rising_in h n) s) (placed (rising_in h n) t)
+        (λ i m. same (place_of (rising_in h n) i) (λ none. both_ways (is_some (type_in h i))
+        (sym (ap (λ j. is_some (type_in h j)) (place_getD (rising_in h n) i ((rising_alike i).1 m))) ∙ ap is_some none)
+        (typed i ((rising_alike i).1 m))));
+    above = λ p le. place_empty p (omega (arith, few_rising));
   }

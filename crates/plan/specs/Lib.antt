@@ -3,3 +3,5 @@ pub mod Paths
 pub mod LinePlans
 pub mod Lockouts
 pub mod Piles
+pub mod PathsLemmas
+pub mod Deciding

@@ -1,7 +1,6 @@
 -- Lockouts and mirrors in a pile over a plan.
-use mathlib.Core.List.{List, [], _∷_}
-use Prim.Native.Nat.{ℕ}
-use Rattle·plan·specs.Plans.{Structure, locked-out, mirrored}
+use Rattle.std.specs.Prelude.{ℕ, List, [], ◌∷◌}
+use Rattle.plan.specs.Plans.{Structure, locked_out, mirrored}
 
 -- a lockout of a place, or a mirror
 pub data Layer : Type 0 where
@@ -11,5 +10,5 @@ pub data Layer : Type 0 where
 -- the layers over the plan p, the topmost first
 abbrev pub piled : List Layer → Structure → Structure
 piled [] p = p
-piled (lockout i ∷ ls) p = locked-out i (piled ls p)
+piled (lockout i ∷ ls) p = locked_out i (piled ls p)
 piled (mirror ∷ ls) p = mirrored (piled ls p)

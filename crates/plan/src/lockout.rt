@@ -1,7 +1,8 @@
-ghost use mathlib.Core.Path.{_≡_};
-ghost use Prim.Native.Nat.{_<_};
-ghost use Rattle·plan·specs.Lockouts.{«Lockout-ruled»};
-ghost use Rattle·plan·specs.Plans.{«locked-out»};
+ghost use Rattle.std.specs.Prelude.{◌≡◌, ◌<◌};
+ghost use Rattle.plan.specs.Lockouts.{LockoutRuled};
+ghost use Rattle.plan.specs.Plans.{locked_out};
+ghost use Rattle.std.proofs.Common.{rules};
+
 use crate::Plan;
 use place_set::PlaceSet;
 use rules::item_type::ItemType;
@@ -15,7 +16,7 @@ pub struct LockedPlace {
 
 impl LockedPlace {
     pub fn new(place: u8) -> Result<LockedPlace, Refusal>
-        ensures { λ r. ⌜ «Lockout-ruled» place r ⌝ }
+        ensures { LockoutRuled place result }
     {
         if place > 15 {
             return Err(Refusal::NoSuchPlace);
@@ -31,8 +32,10 @@ pub struct Lockout<P> {
     pub locked: LockedPlace,
 }
 
-pub impl<P: Plan> Plan for Lockout<P> as LockoutPlan {
-    ghost meaning = { λ l. «locked-out» (l .locked .place) (P·Plan .meaning (l .plan)) };
+impl<P: Plan> Plan for Lockout<P> {
+    ghost meaning = { λ l. locked_out l.locked.place (P.Plan.meaning l.plan) };
+
+    ghost lawful = { Prim.search rules };
 
     fn item_type(&self, place: u8) -> Option<ItemType> {
         self.plan.item_type(place)

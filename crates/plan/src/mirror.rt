@@ -1,5 +1,7 @@
-ghost use mathlib.Core.Path.{_≡_};
-ghost use Rattle·plan·specs.Plans.{mirrored};
+ghost use Rattle.std.specs.Prelude.{◌≡◌};
+ghost use Rattle.plan.specs.Plans.{mirrored};
+ghost use Rattle.std.proofs.Common.{rules};
+
 use crate::Plan;
 use place_set::PlaceSet;
 use rules::item_type::ItemType;
@@ -10,8 +12,10 @@ pub struct Mirror<P> {
     pub plan: P,
 }
 
-pub impl<P: Plan> Plan for Mirror<P> as MirrorPlan {
-    ghost meaning = { λ m. mirrored (P·Plan .meaning (m .plan)) };
+impl<P: Plan> Plan for Mirror<P> {
+    ghost meaning = { λ m. mirrored (P.Plan.meaning m.plan) };
+
+    ghost lawful = { Prim.search rules };
 
     fn item_type(&self, place: u8) -> Option<ItemType> {
         self.plan.item_type(place)

@@ -1,75 +1,65 @@
 -- What the parts of the failure row's computation find.
-use mathlib.Core.Path.{_≡_}
-use mathlib.Core.Bool.{cond}
-use mathlib.Core.List.{List, [], _∷_, _++_}
-use Prim.Native.Nat.{ℕ, _+_, _-_, _*_, _^_, _<_, _≤_}
-use lib.Dec.{ltb}
-use lib.ListN.{length}
-use Rattle·std.specs.Options.{Cases as BySome}
-use Rattle·std.specs.Results.{Cases}
-use Rattle·std.specs.declared.option.Option.{Option}
-use Rattle·std.specs.declared.option.Option.the-variants.{Some, None}
-use Rattle·std.specs.declared.result.Result.{Result}
-use Rattle·rules.specs.declared.item_type.ItemType.{ItemType}
-use Rattle·rules.specs.declared.refusal.Refusal.{Refusal}
-use Rattle·rules.specs.declared.refusal.Refusal.the-variants.{MixedTypes}
-use Rattle·rules.specs.History.{History}
-use Rattle·rules.specs.Rules.{Rule, _when_, Decided}
-use Rattle·rules.specs.Ruled.{naming}
-use Rattle·rules.specs.Trees.{items, tree-of, type-in}
-use Rattle·sums.specs.Members.{_∈_}
-use Rattle·sums.specs.ByType.{is-type}
-use Rattle·sums.specs.Sums.{working-sum}
-use Rattle·cells.specs.Cells.{cell}
-use Rattle·cells.specs.declared.table.CellTable.{CellTable}
-use Rattle·signature.specs.Signature.{signature}
-use Rattle·book.specs.declared.book.Book.{Book}
-use Rattle·book.specs.Keeps.{Keeps}
-use Rattle·survey.specs.declared.bench.Sums.{Sums}
-use Rattle·survey.specs.Surveys.{survey-rules, left-on}
-use Rattle·row·specs.declared.one_type_line.OneTypeLine.{OneTypeLine}
-use Rattle·row·specs.Rows.{factorial, by-type, items-beneath, Mixed}
+use Rattle.std.specs.Prelude.{◌≡◌, ℕ, ◌+◌, ◌-◌, ◌*◌, ◌^◌, ◌<◌, ◌≤◌, cond, List, [], ◌∷◌, ◌++◌, length, Some, None, Option, Result, MatchOption, MatchResult, nat_lt}
+use Rattle.rules.specs.declared.item_type.ItemType.{ItemType}
+use Rattle.rules.specs.declared.refusal.Refusal.{Refusal}
+use Rattle.rules.specs.declared.refusal.Refusal.TheVariants.{MixedTypes}
+use Rattle.rules.specs.History.{History}
+use Rattle.rules.specs.Rules.{Rule, ◌when◌, Decided}
+use Rattle.rules.specs.Ruled.{naming}
+use Rattle.rules.specs.Trees.{items, tree_of, type_in}
+use Rattle.sums.specs.Members.{◌∈◌}
+use Rattle.sums.specs.ByType.{is_type}
+use Rattle.sums.specs.Sums.{working_sum}
+use Rattle.cells.specs.Cells.{cell}
+use Rattle.cells.specs.declared.table.CellTable.{CellTable}
+use Rattle.signature.specs.Signature.{signature}
+use Rattle.book.specs.declared.book.Book.{Book}
+use Rattle.book.specs.Keeps.{Keeps}
+use Rattle.survey.specs.declared.bench.Sums.{Sums}
+use Rattle.survey.specs.Surveys.{survey_rules, left_on}
+use Rattle.row.specs.declared.one_type_line.OneTypeLine.{OneTypeLine}
+use Rattle.row.specs.Rows.{factorial, of_each_type, items_beneath, Mixed}
 
 -- the items beneath the line are all of the type t
-abbrev pub All-of-type : History → ℕ → ItemType → Type 0
-All-of-type h n t = (i : ℕ) → i ∈ items (tree-of h n) → type-in h i ≡ Some t
+abbrev pub AllOfType : History → ℕ → ItemType → Type 0
+AllOfType h n t = (i : ℕ) → i ∈ items (tree_of h n) → type_in h i ≡ Some t
 
 -- their only type, or none where they are of several
-abbrev pub Only-type : History → ℕ → Option ItemType → Type 0
-Only-type h n o = BySome o (Mixed h n) (All-of-type h n)
+abbrev pub OnlyType : History → ℕ → Option ItemType → Type 0
+OnlyType h n o = MatchOption o (Mixed h n) (AllOfType h n)
 
 -- the type that both are
-abbrev pub common-type : Option ItemType → Option ItemType → Option ItemType
-common-type None y = None
-common-type (Some t) y = cond (is-type t y) (Some t) None
+abbrev pub common_type : Option ItemType → Option ItemType → Option ItemType
+common_type None y = None
+common_type (Some t) y = cond (is_type t y) (Some t) None
 
 -- why the items beneath the line n are not of one type
-abbrev pub uniform-rules : History → ℕ → List Rule
-uniform-rules h n = naming h n ++ MixedTypes when Mixed h n ∷ []
+abbrev pub uniform_rules : History → ℕ → List Rule
+uniform_rules h n = naming h n ++ MixedTypes when Mixed h n ∷ []
 
 -- their type and how many they are, if they are
-abbrev pub Uniform-ruled : ℕ → Book → Result (ItemType × ℕ) Refusal → Type 0
-Uniform-ruled n b r = (h : History) → Keeps h b → Decided (uniform-rules h n) (λ x. All-of-type h n (x .0) × (x .1 ≡ items-beneath h n)) r
+abbrev pub UniformRuled : ℕ → Book → Result (ItemType × ℕ) Refusal → Type 0
+UniformRuled n b r = (h : History) → Keeps h b → Decided (uniform_rules h n) (λ x. AllOfType h n x.0 × (x.1 ≡ items_beneath h n)) r
 
 -- a survey under the signature, which answers the first sum of the line n
 pub record Summed (n : ℕ) (b : Book) (old new : List (Sums CellTable)) (r : Result CellTable Refusal) : Type 0 where
-  pub answer : (h : History) → Keeps h b → Decided (survey-rules h n (length old)) (λ x. x ≡ working-sum signature (type-in h) (tree-of h n)) r
-  pub left : Cases r (λ _. (h : History) → Keeps h b → new ≡ left-on signature h old) (λ _. new ≡ old)
+  pub answer : (h : History) → Keeps h b → Decided (survey_rules h n (length old)) (λ x. x ≡ working_sum signature (type_in h) (tree_of h n)) r
+  pub left : MatchResult r (λ _. (h : History) → Keeps h b → new ≡ left_on signature h old) (λ _. new ≡ old)
 
 -- the number of states with l items working in which the line works
-abbrev pub states-with : OneTypeLine → ℕ → ℕ
-states-with x l = by-type (x .«item_type») (cell (x .sum .cells)) l
+abbrev pub states_with : OneTypeLine → ℕ → ℕ
+states_with x l = of_each_type x.item_type (cell x.sum.cells) l
 
 -- in how many of the orders in which the items can fail, one by one, the line works with l of them left
-abbrev pub orders-with : OneTypeLine → ℕ → ℕ
-orders-with x l = states-with x l * (factorial l * factorial (x .items - l))
+abbrev pub orders_with : OneTypeLine → ℕ → ℕ
+orders_with x l = states_with x l * (factorial l * factorial (x.items - l))
 
 -- in how many of them it stops at the next failure after k others
-abbrev pub stops-at : OneTypeLine → ℕ → ℕ
-stops-at x k = cond (ltb k (x .items)) (orders-with x (x .items - k) - orders-with x (x .items - k - 1)) 0
+abbrev pub stops_at : OneTypeLine → ℕ → ℕ
+stops_at x k = cond (nat_lt k x.items) (orders_with x (x.items - k) - orders_with x (x.items - k - 1)) 0
 
 -- at most seven items; the more of them are left, the more orders, and their number fits
 pub record Orderly (x : OneTypeLine) : Type 0 where
-  pub few : x .items ≤ 7
-  pub rise : (l : ℕ) → l < x .items → orders-with x l ≤ orders-with x (l + 1)
-  pub small : (l : ℕ) → l ≤ x .items → orders-with x l < 2 ^ 32
+  pub few : x.items ≤ 7
+  pub rise : (l : ℕ) → l < x.items → orders_with x l ≤ orders_with x (l + 1)
+  pub small : (l : ℕ) → l ≤ x.items → orders_with x l < 2 ^ 32

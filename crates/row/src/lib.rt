@@ -1,12 +1,14 @@
+#![tactic(auto)]
+
 mod one_type_line;
 mod only_type;
 #[cfg(test)]
 mod tests;
 
-ghost use mathlib.Core.Path.{_≡_};
-ghost use denote.Ref.{name};
-ghost use Rattle·row·specs.Rows.{Rowed};
-ghost use Rattle·row·specs.Steps.{Uniform-ruled, Summed};
+ghost use Rattle.std.specs.Prelude.{◌≡◌};
+ghost use Rattle.row.specs.Rows.{Rowed};
+ghost use Rattle.row.specs.Steps.{UniformRuled, Summed};
+
 use book::book::Book;
 use cells::table::CellTable;
 use one_type_line::OneTypeLine;
@@ -15,7 +17,6 @@ use rules::item_type::ItemType;
 use rules::part_number::PartNumber;
 use rules::refusal::Refusal;
 use signature::Signature;
-use signature::SignatureTally;
 use survey::bench::Bench;
 use survey::items::items_beneath;
 use survey::survey;
@@ -28,8 +29,8 @@ pub fn failure_row(
     bench: &mut Bench<CellTable>,
     row: &mut [u32; 7],
 ) -> Result<(), Refusal>
-    ensures answer { λ r. ⌜ Rowed (number .value) (now (book .entry)) (now (now (bench .entry) .places)) (now (now (bench .exit) .places)) (now (row .entry)) (now (row .exit)) r ⌝ }
-    ensures same { λ _. ⌜ name (now (bench .exit) .places) ≡ name (now (bench .entry) .places) ⌝ }
+    ensures answer { Rowed number.value book.now bench.old.places.now bench.new.places.now row.old row.new result }
+    ensures same { bench.new.places.ghost_name ≡ bench.old.places.ghost_name }
 {
     let (item_type, items) = uniform(book, number)?;
     let sum = first_sum(book, number, bench)?;
@@ -44,7 +45,7 @@ pub fn failure_row(
 
 // The type of the items beneath a line, if they are all of one type, and how many they are.
 fn uniform(book: &Book, number: PartNumber) -> Result<(ItemType, usize), Refusal>
-    ensures { λ r. ⌜ Uniform-ruled (number .value) (now (book .entry)) r ⌝ }
+    ensures { UniformRuled number.value book.now result }
 {
     let items = items_beneath(book, number)?;
     match only_type(book, number) {
@@ -59,8 +60,8 @@ fn first_sum(
     number: PartNumber,
     bench: &mut Bench<CellTable>,
 ) -> Result<CellTable, Refusal>
-    ensures answer { λ r. ⌜ Summed (number .value) (now (book .entry)) (now (now (bench .entry) .places)) (now (now (bench .exit) .places)) r ⌝ }
-    ensures same { λ _. ⌜ name (now (bench .exit) .places) ≡ name (now (bench .entry) .places) ⌝ }
+    ensures answer { Summed number.value book.now bench.old.places.now bench.new.places.now result }
+    ensures same { bench.new.places.ghost_name ≡ bench.old.places.ghost_name }
 {
     let place = survey(book, number, &Signature, bench)?;
     match bench.get(place) {

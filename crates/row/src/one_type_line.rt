@@ -1,8 +1,7 @@
-ghost use mathlib.Core.Path.{_≡_};
-ghost use Prim.Native.Nat.{ℕ, _<_, _≤_};
-ghost use lib.ListN.{length, getD};
-ghost use Rattle·row·specs.Rows.{factorial as n-factorial};
-ghost use Rattle·row·specs.Steps.{states-with, orders-with, stops-at, Orderly};
+ghost use Rattle.std.specs.Prelude.{◌≡◌, ℕ, ◌<◌, ◌≤◌, length, slice_index};
+ghost use Rattle.row.specs.Rows.{factorial as n_factorial};
+ghost use Rattle.row.specs.Steps.{states_with, orders_with, stops_at, Orderly};
+
 use cells::table::CellTable;
 use rules::item_type::ItemType;
 
@@ -19,9 +18,9 @@ impl OneTypeLine {
     // The failure row: in how many orders of failing the line stops at the first failure of an item,
     // at the second, and so on.
     pub fn failure_row(&self) -> [u32; 7]
-        requires { ⌜ Orderly (now self) ⌝ }
-        ensures long { λ r. ⌜ length r ≡ 7 ⌝ }
-        ensures each { λ r. ⌜ ((k : ℕ) → k < 7 → getD r k 0 ≡ stops-at (now (self .entry)) k) ⌝ }
+        requires { Orderly self.now }
+        ensures long { length result ≡ 7 }
+        ensures each { (k : ℕ) → k < 7 → slice_index result k ≡ stops_at self.now k }
     {
         let mut row = [0; 7];
         for place in 0..7 {
@@ -32,8 +31,8 @@ impl OneTypeLine {
 
     // In how many orders of failing the line stops at the next failure after so many others.
     fn stops(&self, failed: usize) -> u32
-        requires { ⌜ Orderly (now self) ⌝ }
-        ensures { λ r. ⌜ r ≡ stops-at (now (self .entry)) failed ⌝ }
+        requires { Orderly self.now }
+        ensures { result ≡ stops_at self.now failed }
     {
         if failed >= self.items {
             return 0;
@@ -44,17 +43,17 @@ impl OneTypeLine {
 
     // In how many orders of failing the line works with so many items left.
     fn orders(&self, left: usize) -> u32
-        requires orderly { ⌜ Orderly (now self) ⌝ }
-        requires within { ⌜ left ≤ now self .items ⌝ }
-        ensures { λ r. ⌜ r ≡ orders-with (now (self .entry)) left ⌝ }
+        requires orderly { Orderly self.now }
+        requires within { left ≤ self.now.items }
+        ensures { result ≡ orders_with self.now left }
     {
         self.states(left) * (factorial(left) * factorial(self.items - left))
     }
 
     // In how many states with so many items working the line works.
     fn states(&self, working: usize) -> u32
-        requires { ⌜ working < 8 ⌝ }
-        ensures { λ r. ⌜ r ≡ states-with (now (self .entry)) working ⌝ }
+        requires { working < 8 }
+        ensures { result ≡ states_with self.now working }
     {
         let cell = match self.item_type {
             ItemType::One => self.sum.cell(working, 0, 0),
@@ -70,9 +69,9 @@ impl OneTypeLine {
 
 // n!, up to 7!.
 fn factorial(n: usize) -> u32
-    requires { ⌜ n ≤ 7 ⌝ }
-    ensures value { λ r. ⌜ r ≡ n-factorial n ⌝ }
-    ensures small { λ r. ⌜ r ≤ 5040 ⌝ }
+    requires { n ≤ 7 }
+    ensures value { result ≡ n_factorial n }
+    ensures small { result ≤ 5040 }
 {
     match n {
         0 => 1,

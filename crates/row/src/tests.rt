@@ -4,12 +4,9 @@ use cells::table::CellTable;
 use rules::kind::Kind;
 use rules::part_number::PartNumber;
 use rules::refusal::Refusal;
-use rules::refusal::RefusalDebug;
-use rules::refusal::RefusalPartialEq;
 use std::alloc::Global;
-use std::test::*;
-use survey::bench::Bench;
-use survey::bench::Sums;
+use std::test::Fail;
+use survey::bench::{Bench, Sums};
 
 // Items 1, 2 and 3 of the types; line 4 is 1 and 2 in series, line 5 is 4 and 3 in parallel.
 fn example(heap: Global, types: [u32; 3]) -> Result<Book, Fail> {
@@ -52,36 +49,38 @@ fn row_of(book: &Book, number: u32) -> Result<[u32; 7], Refusal> {
 }
 
 #[test]
-fn one_type(rt: LibcRuntime) -> Result<(), Fail> {
+fn one_type(rt: HostRuntime) -> Result<(), Fail> {
     for item_type in [1, 3] {
         let book = example(rt.alloc(), [item_type, item_type, item_type])?;
-        check_eq(row_of(&book, 5), Ok([0, 4, 2, 0, 0, 0, 0]))?;
-        check_eq(row_of(&book, 3), Ok([1, 0, 0, 0, 0, 0, 0]))?;
+        assert_eq!(rt; row_of(&book, 5), Ok([0, 4, 2, 0, 0, 0, 0]));
+        assert_eq!(rt; row_of(&book, 3), Ok([1, 0, 0, 0, 0, 0, 0]));
     }
     Ok(())
 }
 
 #[test]
-fn seven_items(rt: LibcRuntime) -> Result<(), Fail> {
+fn seven_items(rt: HostRuntime) -> Result<(), Fail> {
     let series = seven(rt.alloc(), Kind::Series)?;
-    check_eq(row_of(&series, 13), Ok([5040, 0, 0, 0, 0, 0, 0]))?;
+    assert_eq!(rt; row_of(&series, 13), Ok([5040, 0, 0, 0, 0, 0, 0]));
     let parallel = seven(rt.alloc(), Kind::Parallel)?;
-    check_eq(row_of(&parallel, 13), Ok([0, 0, 0, 0, 0, 0, 5040]))
+    assert_eq!(rt; row_of(&parallel, 13), Ok([0, 0, 0, 0, 0, 0, 5040]));
+    Ok(())
 }
 
 #[test]
-fn refusals(rt: LibcRuntime) -> Result<(), Fail> {
+fn refusals(rt: HostRuntime) -> Result<(), Fail> {
     let mut book = example(rt.alloc(), [1, 1, 2])?;
-    check_eq(row_of(&book, 5), Err(Refusal::MixedTypes))?;
-    check_eq(row_of(&book, 4), Ok([2, 0, 0, 0, 0, 0, 0]))?;
-    check_eq(row_of(&book, 0), Err(Refusal::NeverGiven))?;
-    check_eq(row_of(&book, 6), Err(Refusal::NeverGiven))?;
+    assert_eq!(rt; row_of(&book, 5), Err(Refusal::MixedTypes));
+    assert_eq!(rt; row_of(&book, 4), Ok([2, 0, 0, 0, 0, 0, 0]));
+    assert_eq!(rt; row_of(&book, 0), Err(Refusal::NeverGiven));
+    assert_eq!(rt; row_of(&book, 6), Err(Refusal::NeverGiven));
     book.withdraw(PartNumber::new(5))?;
-    check_eq(row_of(&book, 5), Err(Refusal::Withdrawn))
+    assert_eq!(rt; row_of(&book, 5), Err(Refusal::Withdrawn));
+    Ok(())
 }
 
 #[test]
-fn short_bench(rt: LibcRuntime) -> Result<(), Fail> {
+fn short_bench(rt: HostRuntime) -> Result<(), Fail> {
     let book = example(rt.alloc(), [1, 1, 2])?;
     let table = CellTable::new([7; 512]);
     let mut places = [Sums {
@@ -91,13 +90,13 @@ fn short_bench(rt: LibcRuntime) -> Result<(), Fail> {
     let mut bench = Bench::new(&mut places);
     let mut row = [9; 7];
     let mixed = failure_row(&book, PartNumber::new(5), &mut bench, &mut row);
-    check_eq(mixed, Err(Refusal::MixedTypes))?;
+    assert_eq!(rt; mixed, Err(Refusal::MixedTypes));
     let short = failure_row(&book, PartNumber::new(4), &mut bench, &mut row);
-    check_eq(short, Err(Refusal::BenchTooShort))?;
-    check_eq(row, [9; 7])?;
+    assert_eq!(rt; short, Err(Refusal::BenchTooShort));
+    assert_eq!(rt; row, [9; 7]);
     for sums in places {
-        check_eq(*sums.working.cells(), [7; 512])?;
-        check_eq(*sums.failing.cells(), [7; 512])?;
+        assert_eq!(rt; *sums.working.cells(), [7; 512]);
+        assert_eq!(rt; *sums.failing.cells(), [7; 512]);
     }
     Ok(())
 }

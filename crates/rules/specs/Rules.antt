@@ -1,30 +1,26 @@
 -- A call is refused by the first condition in its order that holds, and not otherwise.
-use mathlib.Core.Path.{_≡_}
-use mathlib.Core.Logic.{_⊎_}
-use mathlib.Core.List.{List, [], _∷_}
-use Rattle·std.specs.Results.{Cases}
-use Rattle·std.specs.declared.result.Result.{Result}
-use Rattle·rules·specs.declared.refusal.Refusal.{Refusal}
+use Rattle.std.specs.Prelude.{◌≡◌, ◌⊎◌, List, [], ◌∷◌, Result, MatchResult}
+use Rattle.rules.specs.declared.refusal.Refusal.{Refusal}
 
 -- a refusal and its condition
 pub record Rule : Type 1 where
   pub refusal : Refusal
   pub condition : Type 0
 
-infix 68 _when_
-abbrev pub _when_ : Refusal → Type 0 → Rule
+infix 68 ◌when◌
+abbrev pub ◌when◌ : Refusal → Type 0 → Rule
 e when c = record { refusal = e; condition = c }
 
 -- no condition holds
 abbrev pub Allowed : List Rule → Type 0
 Allowed [] = Unit {0}
-Allowed (r ∷ rs) = (r .condition → ⊥) × Allowed rs
+Allowed (r ∷ rs) = (r.condition → ⊥) × Allowed rs
 
 -- the first condition that holds is that of e
 abbrev pub Refused : List Rule → Refusal → Type 0
 Refused [] e = ⊥
-Refused (r ∷ rs) e = (r .condition × (e ≡ r .refusal)) ⊎ ((r .condition → ⊥) × Refused rs e)
+Refused (r ∷ rs) e = (r.condition × (e ≡ r.refusal)) ⊎ ((r.condition → ⊥) × Refused rs e)
 
 -- refused by the first condition that holds, and otherwise answered as A says
 abbrev pub Decided : {X : Type 0} → List Rule → (X → Type 0) → Result X Refusal → Type 0
-Decided rs A r = Cases r (λ x. Allowed rs × A x) (λ e. Refused rs e)
+Decided rs A r = MatchResult r (λ x. Allowed rs × A x) (λ e. Refused rs e)

@@ -1,21 +1,14 @@
 -- The tree of items and blocks beneath a standing line.
-use mathlib.Core.Path.{_≡_}
-use mathlib.Core.Bool.{Bool, cond}
-use mathlib.Core.List.{List, [], _∷_, _++_}
-use Prim.Native.Nat.{ℕ, suc}
-use lib.Dec.{eqb}
-use Rattle·std.specs.declared.option.Option.{Option}
-use Rattle·std.specs.declared.option.Option.the-variants.{Some, None}
-use Rattle·rules·specs.declared.change.Change.{Change}
-use Rattle·rules·specs.declared.change.Change.the-variants.{Issue, Join, Withdraw}
-use Rattle·rules·specs.declared.item_type.ItemType.{ItemType}
-use Rattle·rules·specs.declared.kind.Kind.{Kind}
-use Rattle·rules·specs.declared.line.Part.{Part}
-use Rattle·rules·specs.declared.line.Part.the-variants.{Item, Block}
-use Rattle·rules·specs.declared.part_number.PartNumber.{PartNumber}
-use Rattle·rules·specs.Kinds.{block-works}
-use Rattle·rules·specs.Lines.{item-type}
-use Rattle·rules·specs.History.{History, given, standing}
+use Rattle.std.specs.Prelude.{◌≡◌, ℕ, suc, Bool, cond, List, [], ◌∷◌, ◌++◌, Some, None, Option, ◌==◌}
+use Rattle.rules.specs.declared.change.Change.TheVariants.{Issue, Join, Withdraw}
+use Rattle.rules.specs.declared.item_type.ItemType.{ItemType}
+use Rattle.rules.specs.declared.kind.Kind.{Kind}
+use Rattle.rules.specs.declared.line.Part.{Part}
+use Rattle.rules.specs.declared.line.Part.TheVariants.{Item, Block}
+use Rattle.rules.specs.declared.part_number.PartNumber.{PartNumber}
+use Rattle.rules.specs.Kinds.{block_works}
+use Rattle.rules.specs.Lines.{type_of_part}
+use Rattle.rules.specs.History.{History, given, standing}
 
 -- an item by its number, or a block over two trees
 pub data Tree : Type 0 where
@@ -34,24 +27,24 @@ items (block k x y) = items x ++ items y
 -- an item works if the state says so, a block as its kind makes of its two lines
 abbrev pub works : Tree → State → Bool
 works (item n) s = s n
-works (block k x y) s = block-works k (works x s) (works y s)
+works (block k x y) s = block_works k (works x s) (works y s)
 
 -- x is the tree beneath the standing line n
-abbrev pub Is-tree : History → ℕ → Tree → Type 0
-Is-tree h n (item m) = (t : ItemType) × (standing h n ≡ Some (Item t)) × (m ≡ n)
-Is-tree h n (block k x y) = (a b : PartNumber) × (standing h n ≡ Some (Block k a b)) × Is-tree h (a .value) x × Is-tree h (b .value) y
+abbrev pub IsTree : History → ℕ → Tree → Type 0
+IsTree h n (item m) = (t : ItemType) × (standing h n ≡ Some (Item t)) × (m ≡ n)
+IsTree h n (block k x y) = (a b : PartNumber) × (standing h n ≡ Some (Block k a b)) × IsTree h a.value x × IsTree h b.value y
 
 -- the tree beneath the line n, as the changes made it
-abbrev pub tree-of : History → ℕ → Tree
-tree-of [] n = item n
-tree-of (Issue t ∷ h) n = cond (eqb n (suc (given h))) (item n) (tree-of h n)
-tree-of (Join k a b ∷ h) n = cond (eqb n (suc (given h))) (block k (tree-of h (a .value)) (tree-of h (b .value))) (tree-of h n)
-tree-of (Withdraw m ∷ h) n = tree-of h n
+abbrev pub tree_of : History → ℕ → Tree
+tree_of [] n = item n
+tree_of (Issue t ∷ h) n = cond (n == suc (given h)) (item n) (tree_of h n)
+tree_of (Join k a b ∷ h) n = cond (n == suc (given h)) (block k (tree_of h a.value) (tree_of h b.value)) (tree_of h n)
+tree_of (Withdraw m ∷ h) n = tree_of h n
 
 -- the type of the item n; anything else has none
-abbrev pub type-at : Option Part → Option ItemType
-type-at None = None
-type-at (Some p) = item-type p
+abbrev pub type_at : Option Part → Option ItemType
+type_at None = None
+type_at (Some p) = type_of_part p
 
-abbrev pub type-in : History → ℕ → Option ItemType
-type-in h n = type-at (standing h n)
+abbrev pub type_in : History → ℕ → Option ItemType
+type_in h n = type_at (standing h n)

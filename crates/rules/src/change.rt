@@ -1,9 +1,5 @@
 use crate::kind::Kind;
-use crate::kind::KindDebug;
-use crate::kind::KindPartialEq;
 use crate::part_number::PartNumber;
-use crate::part_number::PartNumberDebug;
-use crate::part_number::PartNumberPartialEq;
 
 // A change that is asked of a book: to issue an item of the type with a number, to join two lines
 // into a block, or to withdraw a line.

@@ -1,5 +1,5 @@
-ghost use mathlib.Core.Path.{_≡_};
-ghost use Rattle·rules·specs.Types.{type-number, type-numbered};
+ghost use Rattle.std.specs.Prelude.{◌≡◌};
+ghost use Rattle.rules.specs.Types.{type_number, type_numbered};
 
 // The type of an item: 1, 2 or 3.
 #[derive(Clone, Copy, PartialEq, Eq, Debug)]
@@ -12,7 +12,7 @@ pub enum ItemType {
 impl ItemType {
     // The type with the number.
     pub fn from_number(number: u32) -> Option<ItemType>
-        ensures { λ r. ⌜ r ≡ type-numbered number ⌝ }
+        ensures { result ≡ type_numbered number }
     {
         match number {
             1 => Some(ItemType::One),
@@ -23,7 +23,7 @@ impl ItemType {
     }
 
     pub fn number(self) -> u8
-        ensures { λ r. ⌜ r ≡ type-number self ⌝ }
+        ensures { result ≡ type_number self }
     {
         match self {
             ItemType::One => 1,

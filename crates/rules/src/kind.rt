@@ -1,5 +1,5 @@
-ghost use mathlib.Core.Path.{_≡_};
-ghost use Rattle·rules·specs.Kinds.{block-works};
+ghost use Rattle.std.specs.Prelude.{◌≡◌};
+ghost use Rattle.rules.specs.Kinds.{block_works};
 
 // How a block depends on its two lines.
 #[derive(Clone, Copy, PartialEq, Eq, Debug)]
@@ -11,7 +11,7 @@ pub enum Kind {
 impl Kind {
     // Whether a block of this kind works, where `a` and `b` say whether its lines do.
     pub fn works(self, a: bool, b: bool) -> bool
-        ensures { λ r. ⌜ r ≡ block-works self a b ⌝ }
+        ensures { result ≡ block_works self a b }
     {
         match self {
             Kind::Series => a && b,

@@ -1,18 +1,11 @@
-ghost use mathlib.Core.Path.{_≡_};
-ghost use mathlib.Core.Bool.{not};
-ghost use Rattle·rules·specs.History.{is-item, is-item-of};
-ghost use Rattle·rules·specs.Lines.{item-type};
-ghost use Rattle·rules·specs.Types.{type-number};
-ghost use Rattle·std.specs.declared.option.Option.the-variants.{Some};
+ghost use Rattle.std.specs.Prelude.{◌≡◌, not, Some};
+ghost use Rattle.rules.specs.History.{is_item, is_item_of};
+ghost use Rattle.rules.specs.Lines.{type_of_part};
+ghost use Rattle.rules.specs.Types.{type_number};
+
 use crate::item_type::ItemType;
-use crate::item_type::ItemTypeDebug;
-use crate::item_type::ItemTypePartialEq;
 use crate::kind::Kind;
-use crate::kind::KindDebug;
-use crate::kind::KindPartialEq;
 use crate::part_number::PartNumber;
-use crate::part_number::PartNumberDebug;
-use crate::part_number::PartNumberPartialEq;
 
 // What a line is: an item of a type, or a block over two lines.
 #[derive(Clone, Copy, PartialEq, Eq, Debug)]
@@ -32,7 +25,7 @@ pub struct Line {
 impl Part {
     // The type of an item; a block has none.
     pub fn item_type(&self) -> Option<ItemType>
-        ensures { λ r. ⌜ r ≡ item-type (now (self .entry)) ⌝ }
+        ensures { result ≡ type_of_part self.now }
     {
         match self {
             Part::Item(item_type) => Some(*item_type),
@@ -41,7 +34,7 @@ impl Part {
     }
 
     pub fn is_item(&self) -> bool
-        ensures { λ r. ⌜ r ≡ is-item (Some (now (self .entry))) ⌝ }
+        ensures { result ≡ is_item (Some self.now) }
     {
         match self {
             Part::Item(_) => true,
@@ -50,7 +43,7 @@ impl Part {
     }
 
     pub fn is_item_of(&self, item_type: ItemType) -> bool
-        ensures { λ r. ⌜ r ≡ is-item-of (type-number «item_type») (Some (now (self .entry))) ⌝ }
+        ensures { result ≡ is_item_of (type_number item_type) (Some self.now) }
     {
         match self {
             Part::Item(own) => own.number() == item_type.number(),
@@ -61,7 +54,7 @@ impl Part {
 
 impl Line {
     pub fn is_free(&self) -> bool
-        ensures { λ r. ⌜ r ≡ not (now (self .entry) .«built_in») ⌝ }
+        ensures { result ≡ not self.now.built_in }
     {
         !self.built_in
     }

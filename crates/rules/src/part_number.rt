@@ -1,4 +1,4 @@
-ghost use mathlib.Core.Path.{_≡_};
+ghost use Rattle.std.specs.Prelude.{◌≡◌};
 
 // The number of a line, which is never given to another. It is no place in a table.
 #[derive(Clone, Copy, PartialEq, Eq, PartialOrd, Ord, Debug)]
@@ -8,13 +8,13 @@ pub struct PartNumber {
 
 impl PartNumber {
     pub fn new(value: u32) -> PartNumber
-        ensures { λ r. ⌜ r .value ≡ value ⌝ }
+        ensures { result.value ≡ value }
     {
         PartNumber { value }
     }
 
     pub fn get(self) -> u32
-        ensures { λ r. ⌜ r ≡ self .value ⌝ }
+        ensures { result ≡ self.value }
     {
         self.value
     }

@@ -1,5 +1,5 @@
-ghost use mathlib.Core.Path.{_≡_};
-ghost use Rattle·rules·specs.Refusals.{number-of};
+ghost use Rattle.std.specs.Prelude.{◌≡◌};
+ghost use Rattle.rules.specs.Refusals.{number_of};
 
 // Why a call was refused: the first condition, in the call's order, that holds.
 #[derive(Clone, Copy, PartialEq, Eq, Debug)]
@@ -55,7 +55,7 @@ pub enum Refusal {
 impl Refusal {
     // The number by which the refusal is known.
     pub fn number(&self) -> u8
-        ensures { λ r. ⌜ r ≡ number-of (now (self .entry)) ⌝ }
+        ensures { result ≡ number_of self.now }
     {
         match self {
             Refusal::UnknownType => 11,

@@ -1,17 +1,13 @@
 mod applying;
 
-ghost use mathlib.Core.Path.{_≡_};
-ghost use Prim.Native.Nat.{_≤_};
-ghost use lib.ListN.{length};
-ghost use Rattle·std.specs.Options.{Cases as BySome};
-ghost use Rattle·sheet·specs.Checks.{check-of, check-seen, closed, closed-at};
-ghost use Rattle·text.specs.Cursors.{line-seen, Line-fits};
-ghost use Rattle·std.specs.declared.option.Option.the-variants.{Some};
+ghost use Rattle.std.specs.Prelude.{◌≡◌, ◌≤◌, length, IfSome, Some};
+ghost use Rattle.sheet.specs.Checks.{check_of, check_seen, closed, closed_at};
+ghost use Rattle.text.specs.Cursors.{line_seen, LineFits};
+
 use crate::fault::Fault;
 use rules::refusal::Refusal;
 use text::bytes::is_ended;
-use text::lines::SheetLine;
-use text::lines::last_line;
+use text::lines::{SheetLine, last_line};
 
 // The most bytes that a sheet may have.
 const LIMIT: usize = 1024;
@@ -40,9 +36,9 @@ struct Closing {
 
 // The closing line of a text that ends with byte 10, if its last line is one.
 fn closing_line(text: &[u8]) -> Option<Closing>
-    requires { ⌜ length (now text) ≤ 1024 ⌝ }
-    ensures value { λ r. ⌜ r ≡ closed (now (text .entry)) ⌝ }
-    ensures within { λ r. ⌜ BySome r (Unit {0}) (λ closing. closing .place ≤ length (now (text .entry))) ⌝ }
+    requires { length text.now ≤ 1024 }
+    ensures value { result ≡ closed text.now }
+    ensures within { IfSome result (λ closing. closing.place ≤ length text.now) }
 {
     if !is_ended(text) {
         return None;
@@ -55,8 +51,8 @@ fn closing_line(text: &[u8]) -> Option<Closing>
 
 // The line as a closing line, if it is one.
 fn line_closing(line: SheetLine<'_>) -> Option<Closing>
-    requires { ⌜ Line-fits line ⌝ }
-    ensures { λ r. ⌜ r ≡ closed-at (Some (line-seen (line .entry))) ⌝ }
+    requires { LineFits line }
+    ensures { result ≡ closed_at (Some (line_seen line.entry)) }
 {
     match line.closing() {
         None => None,
@@ -71,7 +67,7 @@ fn line_closing(line: SheetLine<'_>) -> Option<Closing>
 
 impl<'a> UncheckedSheet<'a> {
     pub fn new(text: &'a [u8]) -> UncheckedSheet<'a>
-        ensures { λ r. ⌜ now (r .text) ≡ now (text .entry) ⌝ }
+        ensures { result.text.now ≡ text.now }
     {
         UncheckedSheet { text }
     }
@@ -79,7 +75,7 @@ impl<'a> UncheckedSheet<'a> {
     // The checked sheet. Refused with 41 over 1,024 bytes, with 42 without a closing line at the end,
     // and with 43 where that line miscounts those above it.
     pub fn check(self) -> Result<CheckedSheet<'a>, Fault>
-        ensures { λ r. ⌜ check-seen r ≡ check-of (now (self .entry .text)) ⌝ }
+        ensures { check_seen result ≡ check_of self.entry.text.now }
     {
         let Self { text } = self;
         if text.len() > LIMIT {

@@ -1,11 +1,12 @@
-ghost use Rattle·sheet·specs.Applying.{Enters};
+ghost use Rattle.sheet.specs.Applying.{Enters};
+
 use crate::check::UncheckedSheet;
 use crate::fault::Fault;
 use book::book::Book;
 
 // Checks a text as a sheet and, if the check accepts it, applies it to the book.
 pub fn enter(text: &[u8], book: &mut Book) -> Result<u32, Fault>
-    ensures { λ r. ⌜ Enters (now (text .entry)) (now (book .entry)) r (now (book .exit)) ⌝ }
+    ensures { Enters text.now book.old result book.new }
 {
     let sheet = UncheckedSheet::new(text);
     match sheet.check() {

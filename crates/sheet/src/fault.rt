@@ -1,8 +1,7 @@
-ghost use mathlib.Core.Path.{_≡_};
-ghost use Rattle·sheet·specs.Faults.{layer-of, carries-number, fault-of};
+ghost use Rattle.std.specs.Prelude.{◌≡◌};
+ghost use Rattle.sheet.specs.Faults.{layer_of, carries_number, fault_of};
+
 use rules::refusal::Refusal;
-use rules::refusal::RefusalDebug;
-use rules::refusal::RefusalPartialEq;
 
 // Where a refusal comes from: the sheet's form, or the book that its changes are asked of.
 #[derive(Clone, Copy, PartialEq, Eq, Debug)]
@@ -23,7 +22,7 @@ pub struct Fault {
 
 impl Layer {
     pub fn of(refusal: Refusal) -> Layer
-        ensures { λ r. ⌜ r ≡ layer-of refusal ⌝ }
+        ensures { result ≡ layer_of refusal }
     {
         match refusal {
             Refusal::SheetTooLong
@@ -38,7 +37,7 @@ impl Layer {
 
 // Whether a fault carries a number: the part number that the book refused, or the next number read.
 fn carries_number(refusal: Refusal) -> bool
-    ensures { λ r. ⌜ r ≡ carries-number refusal ⌝ }
+    ensures { result ≡ carries_number refusal }
 {
     match refusal {
         Refusal::NeverGiven
@@ -53,7 +52,7 @@ fn carries_number(refusal: Refusal) -> bool
 impl Fault {
     // The fault of a refusal at a line; it keeps the number only if it carries one.
     pub fn new(refusal: Refusal, line: usize, place: usize, number: u32) -> Fault
-        ensures { λ r. ⌜ r ≡ fault-of refusal line place number ⌝ }
+        ensures { result ≡ fault_of refusal line place number }
     {
         Fault {
             layer: Layer::of(refusal),

@@ -1,8 +1,8 @@
-ghost use Rattle·sheet·specs.Laws.{Checks-ruled};
+ghost use Rattle.sheet.specs.Laws.{ChecksRuled};
 
 // The check refuses every text by the first of its conditions that holds, and no other text.
 pub fn checks_stand() -> u8
-    ensures { λ _. ⌜ Checks-ruled ⌝ }
+    ensures { ChecksRuled }
 {
     0
 }

@@ -1,7 +1,3 @@
-pub mod Series
-pub mod Polynomials
-pub mod Modular
-pub mod Laws
 mod Cells
 mod Sums
 mod Adds

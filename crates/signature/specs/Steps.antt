@@ -1,17 +1,12 @@
 -- What the steps of a product's computation do to the cells.
-use mathlib.Core.Path.{_≡_}
-use mathlib.Core.Bool.{cond, _&&_}
-use mathlib.Core.List.{List}
-use Prim.Native.Nat.{ℕ, zero, suc, _+_, _-_, _*_, _%_, _<_}
-use lib.Dec.{eqb, leb}
-use lib.ListN.{length, getD}
-use Rattle·cells.specs.Cells.{cell}
-use Rattle·signature·specs.Polynomials.{Polynomial}
+use Rattle.std.specs.Prelude.{◌≡◌, ℕ, zero, suc, ◌+◌, ◌-◌, ◌*◌, ◌%◌, ◌<◌, cond, ◌&&◌, List, length, ◌==◌, nat_le, slice_index}
+use Rattle.cells.specs.Cells.{cell}
+use Rattle.signature.specs.Polynomials.{Polynomial}
 
 -- f 0 + f 1 + .. + f (n - 1)
-unfoldable pub sum-below : ℕ → (ℕ → ℕ) → ℕ
-sum-below zero f = 0
-sum-below (suc n) f = sum-below n f + f n
+unfoldable pub sum_below : ℕ → (ℕ → ℕ) → ℕ
+sum_below zero f = 0
+sum_below (suc n) f = sum_below n f + f n
 
 -- the same modulo 65,536
 abbrev pub Same : ℕ → ℕ → Type 0
@@ -27,13 +22,13 @@ pub record Adds (before : List ℕ) (f : Polynomial) (after : List ℕ) : Type 0
   pub each : (a b c : ℕ) → a < 8 → b < 8 → c < 8 → Same (cell after a b c) (cell before a b c + f a b c)
 
 -- the numbers g 0, g 1, .. in the row of the cells (0, b, c), (1, b, c), ..
-abbrev pub in-row : ℕ → ℕ → (ℕ → ℕ) → Polynomial
-in-row b c g a′ b′ c′ = cond (eqb b b′ && eqb c c′) (g a′) 0
+abbrev pub in_row : ℕ → ℕ → (ℕ → ℕ) → Polynomial
+in_row b c g a' b' c' = cond (b == b' && c == c') (g a') 0
 
 -- f times the powers i, j and k of the three variables
 abbrev pub moved : Polynomial → ℕ → ℕ → ℕ → Polynomial
-moved f i j k a b c = cond (leb i a && (leb j b && leb k c)) (f (a - i) (b - j) (c - k)) 0
+moved f i j k a b c = cond (nat_le i a && (nat_le j b && nat_le k c)) (f (a - i) (b - j) (c - k)) 0
 
 -- the polynomial whose rows stand in rows of 16, the first eight of each being padding
 abbrev pub unpadded : List ℕ → Polynomial
-unpadded rows a b c = getD rows (16 * (b + 8 * c) + 8 + a) 0
+unpadded rows a b c = slice_index rows (16 * (b + 8 * c) + 8 + a)

@@ -1,3 +1,5 @@
+#![tactic(auto)]
+
 mod padded;
 mod product;
 mod sum;
@@ -5,11 +7,12 @@ mod sum;
 mod tests;
 pub mod theorems;
 
-ghost use mathlib.Core.Path.{_≡_};
-ghost use Prim.Native.Nat.{_<_};
-ghost use Rattle·cells.specs.Tables.{«table-of»};
-ghost use Rattle·signature·specs.Polynomials.{«one-at»};
-ghost use Rattle·signature·specs.Signature.{signature};
+ghost use Rattle.std.specs.Prelude.{◌≡◌, ◌<◌};
+ghost use Rattle.cells.specs.Tables.{table_of};
+ghost use Rattle.signature.specs.Polynomials.{one_at};
+ghost use Rattle.signature.specs.Signature.{signature};
+ghost use Rattle.signature.specs.Laws.{signature_semiring};
+
 use cells::table::CellTable;
 use product::product;
 use rules::item_type::ItemType;
@@ -21,10 +24,12 @@ use tally::Tally;
 #[derive(Clone, Copy)]
 pub struct Signature;
 
-pub impl Tally for Signature as SignatureTally {
+impl Tally for Signature {
     type Figure = CellTable;
 
     ghost meaning = { λ _. signature };
+
+    ghost lawful = { λ t. signature_semiring };
 
     fn none(&self) -> CellTable {
         CellTable::new([0; 512])
@@ -57,8 +62,8 @@ pub impl Tally for Signature as SignatureTally {
 
 // The table with 1 in the cell (a, b, c) and 0 elsewhere.
 fn one_at(a: usize, b: usize, c: usize) -> CellTable
-    requires { ⌜ a < 8 ⌝ ∗ ⌜ b < 8 ⌝ ∗ ⌜ c < 8 ⌝ }
-    ensures { λ r. ⌜ r ≡ «table-of» («one-at» a b c) ⌝ }
+    requires { (a < 8) × ((b < 8) × (c < 8)) }
+    ensures { result ≡ table_of (one_at a b c) }
 {
     let mut cells = [0u16; 512];
     cells[a + 8 * b + 64 * c] = 1;

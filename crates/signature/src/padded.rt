@@ -1,9 +1,6 @@
-ghost use mathlib.Core.Path.{_≡_};
-ghost use Prim.Native.Nat.{ℕ, _+_, _*_, _/_, _%_, _<_, _≤_};
-ghost use mathlib.Core.Bool.{false};
-ghost use lib.ListN.{length, getD};
-ghost use Rattle·cells.specs.Cells.{cell};
-ghost use Rattle·signature·specs.Steps.{unpadded};
+ghost use Rattle.std.specs.Prelude.{◌≡◌, ℕ, ◌+◌, ◌*◌, ◌/◌, ◌%◌, ◌<◌, ◌≤◌, false, length, slice_index};
+ghost use Rattle.cells.specs.Cells.{cell};
+ghost use Rattle.signature.specs.Steps.{unpadded};
 
 // The right factor of a product. Each row of eight cells (0, b, c), (1, b, c), .. has eight zeros
 // before it, so that the row moved up by at most eight is eight cells in one piece. All cells whose
@@ -14,16 +11,16 @@ pub struct Padded {
     pub b_end: usize,
     pub c_end: usize,
     ghost long: { length rows ≡ 1024 },
-    ghost padding: { (q : ℕ) → q % 16 < 8 → getD rows q 0 ≡ 0 },
-    ghost past_b: { (q : ℕ) → q < 1024 → «b_end» ≤ q / 16 % 8 → getD rows q 0 ≡ 0 },
-    ghost past_c: { (q : ℕ) → q < 1024 → «c_end» ≤ q / 128 → getD rows q 0 ≡ 0 },
+    ghost padding: { (q : ℕ) → q % 16 < 8 → slice_index rows q ≡ 0 },
+    ghost past_b: { (q : ℕ) → q < 1024 → b_end ≤ q / 16 % 8 → slice_index rows q ≡ 0 },
+    ghost past_c: { (q : ℕ) → q < 1024 → c_end ≤ q / 128 → slice_index rows q ≡ 0 },
 }
 
 // Whether one of the eight cells from `at` is not 0.
 pub fn row_nonzero(x: &[u16; 512], at: usize) -> bool
-    requires { ⌜ at + 8 ≤ 512 ⌝ }
-    ensures zero { λ r. ⌜ (r ≡ false → (m : ℕ) → m < 8 → getD (now (x .entry)) (at + m) 0 ≡ 0) ⌝ }
-    ensures nonzero { λ r. ⌜ (((m : ℕ) → m < 8 → getD (now (x .entry)) (at + m) 0 ≡ 0) → r ≡ false) ⌝ }
+    requires { at + 8 ≤ 512 }
+    ensures zero { result ≡ false → (m : ℕ) → m < 8 → slice_index x.now (at + m) ≡ 0 }
+    ensures nonzero { ((m : ℕ) → m < 8 → slice_index x.now (at + m) ≡ 0) → result ≡ false }
 {
     let mut any = 0u16;
     for i in 0..8usize {
@@ -34,8 +31,8 @@ pub fn row_nonzero(x: &[u16; 512], at: usize) -> bool
 
 // Ends for the second and for the third index: every cell at an end or past it is 0.
 fn degrees(y: &[u16; 512]) -> (usize, usize)
-    ensures past_b { λ r. ⌜ ((p : ℕ) → p < 512 → r .0 ≤ p / 8 % 8 → getD (now (y .entry)) p 0 ≡ 0) ⌝ }
-    ensures past_c { λ r. ⌜ ((p : ℕ) → p < 512 → r .1 ≤ p / 64 → getD (now (y .entry)) p 0 ≡ 0) ⌝ }
+    ensures past_b { (p : ℕ) → p < 512 → result.0 ≤ p / 8 % 8 → slice_index y.now p ≡ 0 }
+    ensures past_c { (p : ℕ) → p < 512 → result.1 ≤ p / 64 → slice_index y.now p ≡ 0 }
 {
     let mut b_end = 0usize;
     let mut c_end = 0usize;
@@ -50,8 +47,8 @@ fn degrees(y: &[u16; 512]) -> (usize, usize)
 
 // The rows of y, each with eight zeros before it.
 fn padded_rows(y: &[u16; 512]) -> [u16; 1024]
-    ensures padding { λ r. ⌜ ((q : ℕ) → q % 16 < 8 → getD r q 0 ≡ 0) ⌝ }
-    ensures same { λ r. ⌜ ((p : ℕ) → p < 512 → getD r (16 * (p / 8) + 8 + p % 8) 0 ≡ getD (now (y .entry)) p 0) ⌝ }
+    ensures padding { (q : ℕ) → q % 16 < 8 → slice_index result q ≡ 0 }
+    ensures same { (p : ℕ) → p < 512 → slice_index result (16 * (p / 8) + 8 + p % 8) ≡ slice_index y.now p }
 {
     let mut rows = [0u16; 1024];
     for row in 0..64usize {
@@ -64,7 +61,7 @@ fn padded_rows(y: &[u16; 512]) -> [u16; 1024]
 
 impl Padded {
     pub fn new(y: &[u16; 512]) -> Padded
-        ensures { λ r. ⌜ ((a b c : ℕ) → a < 8 → b < 8 → c < 8 → unpadded (r .rows) a b c ≡ cell (now (y .entry)) a b c) ⌝ }
+        ensures { (a b c : ℕ) → a < 8 → b < 8 → c < 8 → unpadded result.rows a b c ≡ cell y.now a b c }
     {
         let rows = padded_rows(y);
         let (b_end, c_end) = degrees(y);

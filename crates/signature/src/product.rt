@@ -1,15 +1,14 @@
-ghost use Prim.Native.Nat.{_+_, _*_, _<_, _≤_};
-ghost use lib.ListN.{getD};
-ghost use Rattle·cells.specs.Cells.{cell};
-ghost use Rattle·signature·specs.Polynomials.{«product-of»};
-ghost use Rattle·signature·specs.Steps.{«sum-below», Holds, Adds, «in-row», moved, unpadded};
-use crate::padded::Padded;
-use crate::padded::row_nonzero;
+ghost use Rattle.std.specs.Prelude.{◌+◌, ◌*◌, ◌<◌, ◌≤◌, slice_index};
+ghost use Rattle.cells.specs.Cells.{cell};
+ghost use Rattle.signature.specs.Polynomials.{product_of};
+ghost use Rattle.signature.specs.Steps.{sum_below, Holds, Adds, in_row, moved, unpadded};
+
+use crate::padded::{Padded, row_nonzero};
 
 // Adds v times the eight numbers of `rows` from the place `from` to the row of cells (0, b, c), (1, b, c), ..
 fn add_row(out: &mut [u16; 512], b: usize, c: usize, v: u16, rows: &[u16; 1024], from: usize)
-    requires { ⌜ b < 8 ⌝ ∗ ⌜ c < 8 ⌝ ∗ ⌜ from + 8 ≤ 1024 ⌝ }
-    ensures { λ _. ⌜ Adds (now (out .entry)) («in-row» b c (λ a. v * getD (now (rows .entry)) (from + a) 0)) (now (out .exit)) ⌝ }
+    requires { (b < 8) × ((c < 8) × (from + 8 ≤ 1024)) }
+    ensures { Adds out.old (in_row b c (λ a. v * slice_index rows.now (from + a))) out.new }
 {
     let to = 8 * b + 64 * c;
     for a in 0..8usize {
@@ -19,8 +18,8 @@ fn add_row(out: &mut [u16; 512], b: usize, c: usize, v: u16, rows: &[u16; 1024],
 
 // Adds v times the factor, moved up by i, j and k.
 fn add_moved(out: &mut [u16; 512], v: u16, factor: &Padded, i: usize, j: usize, k: usize)
-    requires { ⌜ i < 8 ⌝ ∗ ⌜ j < 8 ⌝ ∗ ⌜ k < 8 ⌝ }
-    ensures { λ _. ⌜ Adds (now (out .entry)) (λ a b c. v * moved (unpadded (now (factor .entry) .rows)) i j k a b c) (now (out .exit)) ⌝ }
+    requires { (i < 8) × ((j < 8) × (k < 8)) }
+    ensures { Adds out.old (λ a b c. v * moved (unpadded factor.now.rows) i j k a b c) out.new }
 {
     let b_count = factor.b_end.min(8 - j);
     let c_count = factor.c_end.min(8 - k);
@@ -33,8 +32,8 @@ fn add_moved(out: &mut [u16; 512], v: u16, factor: &Padded, i: usize, j: usize, 
 
 // Adds the factor times the row of x's cells (0, j, k), (1, j, k), ..
 fn add_row_times(out: &mut [u16; 512], x: &[u16; 512], factor: &Padded, j: usize, k: usize)
-    requires { ⌜ j < 8 ⌝ ∗ ⌜ k < 8 ⌝ }
-    ensures { λ _. ⌜ Adds (now (out .entry)) (λ a b c. «sum-below» 8 (λ i. cell (now (x .entry)) i j k * moved (unpadded (now (factor .entry) .rows)) i j k a b c)) (now (out .exit)) ⌝ }
+    requires { (j < 8) × (k < 8) }
+    ensures { Adds out.old (λ a b c. sum_below 8 (λ i. cell x.now i j k * moved (unpadded factor.now.rows) i j k a b c)) out.new }
 {
     for i in 0..8usize {
         let v = x[i + 8 * j + 64 * k];
@@ -46,7 +45,7 @@ fn add_row_times(out: &mut [u16; 512], x: &[u16; 512], factor: &Padded, j: usize
 
 // The cells of the product.
 pub fn product(x: &[u16; 512], y: &[u16; 512]) -> [u16; 512]
-    ensures { λ r. ⌜ Holds r («product-of» (cell (now (x .entry))) (cell (now (y .entry)))) ⌝ }
+    ensures { Holds result (product_of (cell x.now) (cell y.now)) }
 {
     let factor = Padded::new(y);
     let mut out = [0u16; 512];

@@ -1,8 +1,8 @@
-ghost use Rattle·signature·specs.Counted.{«Signature-stands»};
+ghost use Rattle.signature.specs.Counted.{SignatureStands};
 
 // Under the signature the cells of a line's two sums are numbers of states.
 pub fn signature_stands() -> u8
-    ensures { λ _. ⌜ «Signature-stands» ⌝ }
+    ensures { SignatureStands }
 {
     0
 }

@@ -1,20 +1,19 @@
 -- The whole numbers are a commutative semiring, whatever the figures of the items.
-use Prim.Native.Nat.{ℕ, _+_, _*_}
-use native.Mathlib.Nat.{add-comm, add-assoc, add-zero, mul-comm, mul-assoc, mul-one, mul-add, mul-zero}
-use Rattle·rules.specs.declared.item_type.ItemType.{ItemType}
-use Rattle·sums·specs.Semiring.{Meaning, Semiring}
+use Rattle.std.proofs.Common.{ℕ, ◌+◌, ◌*◌, add-zero, add_assoc, mul_assoc, mul_comm, add_comm, mul-zero, mul-one, mul-add}
+use Rattle.rules.specs.declared.item_type.ItemType.{ItemType}
+use Rattle.sums.specs.Semiring.{Meaning, Semiring}
 
 abbrev pub numbers : (ItemType → ℕ) → (ItemType → ℕ) → Meaning ℕ
-numbers working failed = record { none = 0; unit = 1; plus = _+_; times = _*_; working = working; failed = failed }
+numbers working failed = record { none = 0; unit = 1; plus = ◌+◌; times = ◌*◌; working = working; failed = failed }
 
-pub numbers-semiring : (working failed : ItemType → ℕ) → Semiring (numbers working failed)
-numbers-semiring working failed = record {
-  plus-comm = add-comm;
-  plus-assoc = add-assoc;
-  plus-none = add-zero;
-  times-comm = mul-comm;
-  times-assoc = mul-assoc;
-  times-unit = mul-one;
-  times-plus = mul-add;
-  times-none = mul-zero;
+pub numbers_semiring : (working failed : ItemType → ℕ) → Semiring (numbers working failed)
+numbers_semiring working failed = record {
+  plus_comm = add_comm;
+  plus_assoc = add_assoc;
+  plus_none = add-zero;
+  times_comm = mul_comm;
+  times_assoc = mul_assoc;
+  times_unit = mul-one;
+  times_plus = mul-add;
+  times_none = mul-zero;
 }

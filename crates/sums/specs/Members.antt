@@ -1,12 +1,12 @@
 -- Lists of numbers by what they hold, and trees in which no item stands twice.
-use mathlib.Core.List.{List, [], _∷_, List·Memᴰ}
-use Prim.Native.Nat.{ℕ, _<_}
-use Rattle·rules.specs.Trees.{Tree, item, block, items}
+use Rattle.std.specs.Prelude.{ℕ, ◌<◌, List, [], ◌∷◌}
+use mathlib.Core.List.{Memᴰ}
+use Rattle.rules.specs.Trees.{Tree, item, block, items}
 
-infix 50 _∈_
+infix 50 ◌∈◌
 -- the list has the number
-abbrev pub _∈_ : ℕ → List ℕ → Type 0
-i ∈ is = List·Memᴰ i is
+abbrev pub ◌∈◌ : ℕ → List ℕ → Type 0
+i ∈ is = Memᴰ i is
 
 -- no number stands in both lists
 abbrev pub Apart : List ℕ → List ℕ → Type 0

@@ -1,17 +1,14 @@
 -- All states of some items, and sums over lists.
-use mathlib.Core.List.{List, [], _∷_, _++_}
-use mathlib.Core.Bool.{Bool, true, false, cond}
-use Prim.Native.Nat.{ℕ, zero, suc, _+_}
-use lib.Dec.{eqb}
-use Rattle·rules.specs.Trees.{State}
+use Rattle.std.specs.Prelude.{ℕ, zero, suc, ◌+◌, Bool, true, false, cond, List, [], ◌∷◌, ◌++◌, ◌==◌}
+use Rattle.rules.specs.Trees.{State}
 
 -- the state in which nothing works
-abbrev pub all-failed : State
-all-failed n = false
+abbrev pub all_failed : State
+all_failed n = false
 
 -- the state s, but for the item i, which is as v says
 abbrev pub put : ℕ → Bool → State → State
-put i v s n = cond (eqb i n) v (s n)
+put i v s n = cond (i == n) v (s n)
 
 -- every state of the items is, one by one; all else is as in s
 abbrev pub states : List ℕ → State → List State
@@ -39,5 +36,5 @@ count p [] = 0
 count p (x ∷ xs) = cond (p x) 1 0 + count p xs
 
 -- how many states of the items pass the test
-abbrev pub states-passing : List ℕ → (State → Bool) → ℕ
-states-passing is p = count p (states is all-failed)
+abbrev pub states_passing : List ℕ → (State → Bool) → ℕ
+states_passing is p = count p (states is all_failed)

@@ -1,8 +1,5 @@
-ghost use mathlib.Core.Path.{_≡_};
-ghost use Prim.Native.Nat.{ℕ, _<_};
-ghost use lib.ListN.{length, getD, set};
-ghost use denote.Ref.{name};
-ghost use Rattle·std.specs.shelf.Maps.{nth};
+ghost use Rattle.std.specs.Prelude.{◌≡◌, ℕ, ◌<◌, length, slice_index_or, slice_set};
+ghost use Rattle.std.specs.List.{slice_get};
 
 // The two sums of a line: over the states of the items beneath in which it works, and over those in
 // which it does not.
@@ -20,44 +17,44 @@ pub struct Bench<'a, F> {
 
 impl<'a, F: Copy> Bench<'a, F> {
     pub fn new(places: &'a mut [Sums<F>]) -> Bench<'a, F>
-        ensures { λ r. ⌜ now (r .places) ≡ now (places .entry) ⌝ ∗ ⌜ name (r .places) ≡ name (places .entry) ⌝ }
+        ensures { (result.places.now ≡ places.old) × (result.places.ghost_name ≡ places.entry.ghost_name) }
     {
         Bench { places }
     }
 
     // How many places there are.
     pub fn len(&self) -> usize
-        ensures { λ r. ⌜ r ≡ length (now (now (self .entry) .places)) ⌝ }
+        ensures { result ≡ length self.now.places.now }
     {
         self.places.len()
     }
 
     // What a place holds, if there is such a place.
     pub fn get(&self, place: usize) -> Option<Sums<F>>
-        ensures { λ r. ⌜ r ≡ nth (now (now (self .entry) .places)) place ⌝ }
+        ensures { result ≡ slice_get self.now.places.now place }
     {
         held(self.places, place)
     }
 
     // What a place holds.
     pub(crate) fn at(&self, place: usize) -> Sums<F>
-        requires { ⌜ place < length (now (now self .places)) ⌝ }
-        ensures { λ r. ⌜ r ≡ getD (now (now (self .entry) .places)) place r ⌝ }
+        requires { place < length self.now.places.now }
+        ensures { result ≡ slice_index_or self.now.places.now place result }
     {
         load(self.places, place)
     }
 
     pub(crate) fn put(&mut self, place: usize, sums: Sums<F>)
-        requires { ⌜ place < length (now (now self .places)) ⌝ }
-        ensures held { λ _. ⌜ now (now (self .exit) .places) ≡ set (now (now (self .entry) .places)) place sums ⌝ }
-        ensures same { λ _. ⌜ name (now (self .exit) .places) ≡ name (now (self .entry) .places) ⌝ }
+        requires { place < length self.old.places.now }
+        ensures held { self.new.places.now ≡ slice_set self.old.places.now place sums }
+        ensures same { self.new.places.ghost_name ≡ self.old.places.ghost_name }
     {
         store(self.places, place, sums)
     }
 }
 
 fn held<F: Copy>(places: &[Sums<F>], place: usize) -> Option<Sums<F>>
-    ensures { λ r. ⌜ r ≡ nth (now (places .entry)) place ⌝ }
+    ensures { result ≡ slice_get places.now place }
 {
     if place < places.len() {
         Some(load(places, place))
@@ -67,15 +64,15 @@ fn held<F: Copy>(places: &[Sums<F>], place: usize) -> Option<Sums<F>>
 }
 
 fn load<F: Copy>(places: &[Sums<F>], place: usize) -> Sums<F>
-    requires { ⌜ place < length (now places) ⌝ }
-    ensures { λ r. ⌜ r ≡ getD (now (places .entry)) place r ⌝ }
+    requires { place < length places.now }
+    ensures { result ≡ slice_index_or places.now place result }
 {
     places[place]
 }
 
 fn store<F: Copy>(places: &mut [Sums<F>], place: usize, sums: Sums<F>)
-    requires { ⌜ place < length (now places) ⌝ }
-    ensures { λ _. ⌜ now (places .exit) ≡ set (now (places .entry)) place sums ⌝ }
+    requires { place < length places.old }
+    ensures { places.new ≡ slice_set places.old place sums }
 {
     places[place] = sums;
 }

@@ -1,12 +1,9 @@
-ghost use mathlib.Core.Path.{_≡_};
-ghost use mathlib.Core.Bool.{true};
-ghost use Prim.Native.Nat.{ℕ};
-ghost use lib.ListN.{length};
-ghost use Rattle·std.specs.Options.{isSome};
-ghost use Rattle·rules.specs.History.{History, standing};
-ghost use Rattle·rules.specs.Trees.{items, tree-of};
-ghost use Rattle·book.specs.Keeps.{Keeps};
-ghost use Rattle·survey·specs.Items.{Items-ruled};
+ghost use Rattle.std.specs.Prelude.{◌≡◌, ℕ, true, length, is_some};
+ghost use Rattle.rules.specs.History.{History, standing};
+ghost use Rattle.rules.specs.Trees.{items, tree_of};
+ghost use Rattle.book.specs.Keeps.{Keeps};
+ghost use Rattle.survey.specs.Items.{ItemsRuled};
+
 use book::book::Book;
 use rules::line::Part;
 use rules::part_number::PartNumber;
@@ -14,7 +11,7 @@ use rules::refusal::Refusal;
 
 // How many items lie beneath a line.
 pub fn items_beneath(book: &Book, number: PartNumber) -> Result<u32, Refusal>
-    ensures { λ r. ⌜ ((h : History) → Keeps h (now (book .entry)) → Items-ruled h (number .value) r) ⌝ }
+    ensures { (h : History) → Keeps h book.now → ItemsRuled h number.value result }
 {
     let _line = book.question(number)?;
     Ok(count_items(book, number))
@@ -22,8 +19,8 @@ pub fn items_beneath(book: &Book, number: PartNumber) -> Result<u32, Refusal>
 
 // How many items lie beneath a line that stands: one, or those beneath its two lines.
 fn count_items(book: &Book, number: PartNumber) -> u32
-    requires { ⌜ ((h : History) → Keeps h (now book) → isSome (standing h (number .value)) ≡ true) ⌝ }
-    ensures { λ r. ⌜ ((h : History) → Keeps h (now (book .entry)) → r ≡ length (items (tree-of h (number .value)))) ⌝ }
+    requires { (h : History) → Keeps h book.now → is_some (standing h number.value) ≡ true }
+    ensures { (h : History) → Keeps h book.now → result ≡ length (items (tree_of h number.value)) }
 {
     match book.question(number) {
         Ok(line) => match line.part {

@@ -1,5 +1,6 @@
-ghost use mathlib.Core.Path.{_≡_};
-ghost use Rattle·sums.specs.Blocks.{block-working, block-failing};
+ghost use Rattle.std.specs.Prelude.{◌≡◌};
+ghost use Rattle.sums.specs.Blocks.{block_working, block_failing};
+
 use crate::bench::Sums;
 use rules::item_type::ItemType;
 use rules::kind::Kind;
@@ -7,8 +8,8 @@ use tally::Tally;
 
 // The sums of an item of a type: the figure of one that works, and that of one that failed.
 pub fn item_sums<T: Tally>(tally: &T, item_type: ItemType) -> Sums<T::Figure>
-    ensures working { λ r. ⌜ r .working ≡ T·Tally .meaning (now (tally .entry)) .working «item_type» ⌝ }
-    ensures failing { λ r. ⌜ r .failing ≡ T·Tally .meaning (now (tally .entry)) .failed «item_type» ⌝ }
+    ensures working { result.working ≡ (T.Tally.meaning tally.now).working item_type }
+    ensures failing { result.failing ≡ (T.Tally.meaning tally.now).failed item_type }
 {
     Sums {
         working: tally.working(item_type),
@@ -23,8 +24,8 @@ pub fn joined<T: Tally>(
     x: Sums<T::Figure>,
     y: Sums<T::Figure>,
 ) -> Sums<T::Figure>
-    ensures working { λ r. ⌜ r .working ≡ block-working (T·Tally .meaning (now (tally .entry))) kind (x .working) (x .failing) (y .working) (y .failing) ⌝ }
-    ensures failing { λ r. ⌜ r .failing ≡ block-failing (T·Tally .meaning (now (tally .entry))) kind (x .working) (x .failing) (y .working) (y .failing) ⌝ }
+    ensures working { result.working ≡ block_working (T.Tally.meaning tally.now) kind x.working x.failing y.working y.failing }
+    ensures failing { result.failing ≡ block_failing (T.Tally.meaning tally.now) kind x.working x.failing y.working y.failing }
 {
     let either = tally.plus(y.working, y.failing);
     match kind {

@@ -1,16 +1,15 @@
+#![tactic(auto)]
+
 pub mod bench;
 pub mod items;
 mod joining;
 mod lines;
 
-ghost use mathlib.Core.Path.{_≡_};
-ghost use Prim.Native.Nat.{ℕ, _<_, _≤_};
-ghost use lib.ListN.{length, set};
-ghost use denote.Ref.{name};
-ghost use Rattle·std.specs.declared.option.Option.the-variants.{Some};
-ghost use Rattle·rules.specs.History.{History, standing, lines-standing};
-ghost use Rattle·book.specs.Keeps.{Keeps};
-ghost use Rattle·survey·specs.Surveys.{Survey-ruled, Surveyed, Holds-below, left-on, sums-of};
+ghost use Rattle.std.specs.Prelude.{◌≡◌, ℕ, ◌<◌, ◌≤◌, length, Some, slice_set};
+ghost use Rattle.rules.specs.History.{History, standing, lines_standing};
+ghost use Rattle.book.specs.Keeps.{Keeps};
+ghost use Rattle.survey.specs.Surveys.{SurveyRuled, Surveyed, HoldsBelow, left_on, sums_of};
+
 use bench::Bench;
 use book::book::Book;
 use lines::line_sums;
@@ -27,8 +26,8 @@ pub fn survey<T: Tally>(
     tally: &T,
     bench: &mut Bench<T::Figure>,
 ) -> Result<usize, Refusal>
-    ensures answer { λ r. ⌜ Surveyed (T·Tally .meaning (now (tally .entry))) (number .value) (now (book .entry)) (now (now (bench .entry) .places)) (now (now (bench .exit) .places)) r ⌝ }
-    ensures same { λ _. ⌜ name (now (bench .exit) .places) ≡ name (now (bench .entry) .places) ⌝ }
+    ensures answer { Surveyed (T.Tally.meaning tally.now) number.value book.now bench.old.places.now bench.new.places.now result }
+    ensures same { bench.new.places.ghost_name ≡ bench.old.places.ghost_name }
 {
     let place = place_on_bench(book, number, bench.len())?;
     fill(book, tally, bench);
@@ -37,7 +36,7 @@ pub fn survey<T: Tally>(
 
 // The place of the named line on a bench with so many places, where all standing lines have one.
 fn place_on_bench(book: &Book, number: PartNumber, places: usize) -> Result<usize, Refusal>
-    ensures { λ r. ⌜ ((h : History) → Keeps h (now (book .entry)) → Survey-ruled h (number .value) places r) ⌝ }
+    ensures { (h : History) → Keeps h book.now → SurveyRuled h number.value places result }
 {
     let place = book.seek(number)?;
     if places < book.lines().len() {
@@ -48,9 +47,9 @@ fn place_on_bench(book: &Book, number: PartNumber, places: usize) -> Result<usiz
 
 // Puts the sums of each line at its place; the places past the last line stay as they were.
 fn fill<T: Tally>(book: &Book, tally: &T, bench: &mut Bench<T::Figure>)
-    requires { ⌜ ((h : History) → Keeps h (now book) → lines-standing h ≤ length (now (now bench .places))) ⌝ }
-    ensures sums { λ _. ⌜ ((h : History) → Keeps h (now (book .entry)) → now (now (bench .exit) .places) ≡ left-on (T·Tally .meaning (now (tally .entry))) h (now (now (bench .entry) .places))) ⌝ }
-    ensures same { λ _. ⌜ name (now (bench .exit) .places) ≡ name (now (bench .entry) .places) ⌝ }
+    requires { (h : History) → Keeps h book.now → lines_standing h ≤ length bench.old.places.now }
+    ensures sums { (h : History) → Keeps h book.now → bench.new.places.now ≡ left_on (T.Tally.meaning tally.now) h bench.old.places.now }
+    ensures same { bench.new.places.ghost_name ≡ bench.old.places.ghost_name }
 {
     let lines = book.lines();
     for place in 0..lines.len() {
@@ -66,11 +65,11 @@ fn put_line_sums<T: Tally>(
     line: Line,
     place: usize,
 )
-    requires here { ⌜ ((h : History) → Keeps h (now book) → standing h (line .number .value) ≡ Some (line .part)) ⌝ }
-    requires below { ⌜ ((h : History) → Keeps h (now book) → Holds-below (T·Tally .meaning (now tally)) h (line .number .value) (now (now bench .places))) ⌝ }
-    requires within { ⌜ place < length (now (now bench .places)) ⌝ }
-    ensures held { λ _. ⌜ ((h : History) → Keeps h (now (book .entry)) → now (now (bench .exit) .places) ≡ set (now (now (bench .entry) .places)) place (sums-of (T·Tally .meaning (now (tally .entry))) h (line .number .value))) ⌝ }
-    ensures same { λ _. ⌜ name (now (bench .exit) .places) ≡ name (now (bench .entry) .places) ⌝ }
+    requires here { (h : History) → Keeps h book.now → standing h line.number.value ≡ Some line.part }
+    requires below { (h : History) → Keeps h book.now → HoldsBelow (T.Tally.meaning tally.now) h line.number.value bench.old.places.now }
+    requires within { place < length bench.old.places.now }
+    ensures held { (h : History) → Keeps h book.now → bench.new.places.now ≡ slice_set bench.old.places.now place (sums_of (T.Tally.meaning tally.now) h line.number.value) }
+    ensures same { bench.new.places.ghost_name ≡ bench.old.places.ghost_name }
 {
     let sums = line_sums(book, tally, bench, line);
     bench.put(place, sums);

@@ -1,18 +1,12 @@
-ghost use mathlib.Core.Path.{_≡_};
-ghost use mathlib.Core.Bool.{true};
-ghost use Prim.Native.Nat.{ℕ};
-ghost use Rattle·std.specs.Options.{isSome};
-ghost use Rattle·std.specs.declared.option.Option.the-variants.{Some};
-ghost use Rattle·rules.specs.History.{History, standing, place-in};
-ghost use Rattle·book.specs.Keeps.{Keeps};
-ghost use Rattle·survey·specs.Surveys.{sums-of, Holds-below};
-use crate::bench::Bench;
-use crate::bench::Sums;
-use crate::joining::item_sums;
-use crate::joining::joined;
+ghost use Rattle.std.specs.Prelude.{◌≡◌, ℕ, true, is_some, Some};
+ghost use Rattle.rules.specs.History.{History, standing, place_in};
+ghost use Rattle.book.specs.Keeps.{Keeps};
+ghost use Rattle.survey.specs.Surveys.{sums_of, HoldsBelow};
+
+use crate::bench::{Bench, Sums};
+use crate::joining::{item_sums, joined};
 use book::book::Book;
-use rules::line::Line;
-use rules::line::Part;
+use rules::line::{Line, Part};
 use rules::part_number::PartNumber;
 use tally::Tally;
 
@@ -23,9 +17,9 @@ pub fn line_sums<T: Tally>(
     bench: &Bench<T::Figure>,
     line: Line,
 ) -> Sums<T::Figure>
-    requires here { ⌜ ((h : History) → Keeps h (now book) → standing h (line .number .value) ≡ Some (line .part)) ⌝ }
-    requires below { ⌜ ((h : History) → Keeps h (now book) → Holds-below (T·Tally .meaning (now tally)) h (line .number .value) (now (now bench .places))) ⌝ }
-    ensures { λ r. ⌜ ((h : History) → Keeps h (now (book .entry)) → r ≡ sums-of (T·Tally .meaning (now (tally .entry))) h (line .number .value)) ⌝ }
+    requires here { (h : History) → Keeps h book.now → standing h line.number.value ≡ Some line.part }
+    requires below { (h : History) → Keeps h book.now → HoldsBelow (T.Tally.meaning tally.now) h line.number.value bench.now.places.now }
+    ensures { (h : History) → Keeps h book.now → result ≡ sums_of (T.Tally.meaning tally.now) h line.number.value }
 {
     match line.part {
         Part::Item(item_type) => item_sums(tally, item_type),
@@ -41,8 +35,8 @@ pub fn line_sums<T: Tally>(
 
 // The place of a line that stands.
 fn place_of(book: &Book, number: PartNumber) -> usize
-    requires { ⌜ ((h : History) → Keeps h (now book) → isSome (standing h (number .value)) ≡ true) ⌝ }
-    ensures { λ r. ⌜ ((h : History) → Keeps h (now (book .entry)) → r ≡ place-in h (number .value)) ⌝ }
+    requires { (h : History) → Keeps h book.now → is_some (standing h number.value) ≡ true }
+    ensures { (h : History) → Keeps h book.now → result ≡ place_in h number.value }
 {
     match book.seek(number) {
         Ok(place) => place,

@@ -1,5 +1,6 @@
-ghost use mathlib.Core.Path.{_≡_};
-ghost use Rattle·survival·specs.LowHigh.{block-low, block-high};
+ghost use Rattle.std.specs.Prelude.{◌≡◌};
+ghost use Rattle.survival.specs.LowHigh.{block_low, block_high};
+
 use crate::fixed_point::FixedPoint;
 use rules::kind::Kind;
 
@@ -13,7 +14,7 @@ pub struct Bounds {
 impl Bounds {
     // The bounds of an item, which is known exactly.
     pub fn exact(share: FixedPoint) -> Bounds
-        ensures { λ r. ⌜ r .low ≡ share ⌝ ∗ ⌜ r .high ≡ share ⌝ }
+        ensures { (result.low ≡ share) × (result.high ≡ share) }
     {
         Bounds {
             low: share,
@@ -23,8 +24,8 @@ impl Bounds {
 
     // The bounds of a block over two lines that have the bounds x and y.
     pub fn joined(kind: Kind, x: Bounds, y: Bounds) -> Bounds
-        ensures low { λ r. ⌜ r .low .units ≡ block-low kind (x .low .units) (y .low .units) ⌝ }
-        ensures high { λ r. ⌜ r .high .units ≡ block-high kind (x .high .units) (y .high .units) ⌝ }
+        ensures low { result.low.units ≡ block_low kind x.low.units y.low.units }
+        ensures high { result.high.units ≡ block_high kind x.high.units y.high.units }
     {
         match kind {
             Kind::Series => Bounds {

@@ -1,7 +1,7 @@
 mod access;
 mod rounding;
 
-ghost use Prim.Native.Nat.{_≤_};
+ghost use Rattle.std.specs.Prelude.{◌≤◌};
 
 // 1, in units.
 const ONE: u32 = 1_073_741_824;

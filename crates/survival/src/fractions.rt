@@ -1,5 +1,6 @@
-ghost use mathlib.Core.Path.{_≡_};
-ghost use Rattle·survival·specs.Held.{fraction-of, «Fractions-ruled»};
+ghost use Rattle.std.specs.Prelude.{◌≡◌};
+ghost use Rattle.survival.specs.Held.{fraction_of, FractionsRuled};
+
 use crate::fixed_point::FixedPoint;
 use crate::shares::Shares;
 use rules::item_type::ItemType;
@@ -16,7 +17,7 @@ pub struct Fractions {
 impl Fractions {
     // The fractions that the shares stand for, if none is above 1.
     pub fn from_shares(shares: Shares) -> Result<Fractions, Refusal>
-        ensures { λ r. ⌜ «Fractions-ruled» shares r ⌝ }
+        ensures { FractionsRuled shares result }
     {
         Ok(Fractions {
             one: FixedPoint::from_share(shares.one)?,
@@ -27,7 +28,7 @@ impl Fractions {
 
     // The fraction of a type.
     pub fn of(self, item_type: ItemType) -> FixedPoint
-        ensures { λ r. ⌜ r .units ≡ fraction-of self «item_type» ⌝ }
+        ensures { result.units ≡ fraction_of self item_type }
     {
         match item_type {
             ItemType::One => self.one,

@@ -1,3 +1,5 @@
+#![tactic(auto)]
+
 mod bounds;
 pub mod fixed_point;
 mod fractions;
@@ -6,12 +8,12 @@ pub mod shares;
 #[cfg(test)]
 mod tests;
 
-ghost use mathlib.Core.Path.{_≡_};
-ghost use lib.ListN.{length};
-ghost use Rattle·rules.specs.History.{History, lines-of};
-ghost use Rattle·book.specs.Keeps.{Keeps};
-ghost use Rattle·survival·specs.Held.{fraction-of, «Held-before»};
-ghost use Rattle·survival·specs.Ruled.{«Survival-ruled»};
+ghost use Rattle.std.specs.Prelude.{◌≡◌, length};
+ghost use Rattle.rules.specs.History.{History, lines_of};
+ghost use Rattle.book.specs.Keeps.{Keeps};
+ghost use Rattle.survival.specs.Held.{fraction_of, HeldBefore};
+ghost use Rattle.survival.specs.Ruled.{SurvivalRuled};
+
 use book::book::Book;
 use bounds::Bounds;
 use fixed_point::FixedPoint;
@@ -30,7 +32,7 @@ pub fn survival(
     number: PartNumber,
     shares: Shares,
 ) -> Result<(FixedPoint, FixedPoint), Refusal>
-    ensures { λ r. ⌜ ((h : History) → Keeps h (now (book .entry)) → «Survival-ruled» h (number .value) shares r) ⌝ }
+    ensures { (h : History) → Keeps h book.now → SurvivalRuled h number.value shares result }
 {
     let place = book.seek(number)?;
     let fractions = Fractions::from_shares(shares)?;
@@ -41,8 +43,8 @@ pub fn survival(
 
 // The bounds of every standing line, each at its place.
 fn all_bounds(book: &Book, fractions: Fractions) -> [Bounds; MOST_LINES]
-    ensures long { λ r. ⌜ length r ≡ 31 ⌝ }
-    ensures held { λ r. ⌜ ((h : History) → Keeps h (now (book .entry)) → «Held-before» (fraction-of fractions) h (length (lines-of h)) r) ⌝ }
+    ensures long { length result ≡ 31 }
+    ensures held { (h : History) → Keeps h book.now → HeldBefore (fraction_of fractions) h (length (lines_of h)) result }
 {
     let lines = book.lines();
     // Each place is filled before it is read.

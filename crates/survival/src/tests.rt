@@ -1,16 +1,12 @@
 use crate::fixed_point::FixedPoint;
-use crate::fixed_point::FixedPointDebug;
-use crate::fixed_point::FixedPointPartialEq;
 use crate::shares::Shares;
 use crate::survival;
 use book::book::Book;
 use rules::kind::Kind;
 use rules::part_number::PartNumber;
 use rules::refusal::Refusal;
-use rules::refusal::RefusalDebug;
-use rules::refusal::RefusalPartialEq;
 use std::alloc::Global;
-use std::test::*;
+use std::test::Fail;
 
 const ONE: u32 = 1_073_741_824;
 
@@ -30,7 +26,7 @@ fn shares(one: u32, two: u32, three: u32) -> Shares {
 }
 
 #[test]
-fn answers(rt: LibcRuntime) -> Result<(), Fail> {
+fn answers(rt: HostRuntime) -> Result<(), Fail> {
     let book = example(rt.alloc())?;
     let cases = [
         (
@@ -47,14 +43,14 @@ fn answers(rt: LibcRuntime) -> Result<(), Fail> {
     ];
     for (number, given, low, high) in cases {
         let (l, h) = survival(&book, PartNumber::new(number), given)?;
-        check_eq(l.units(), low)?;
-        check_eq(h.units(), high)?;
+        assert_eq!(rt; l.units(), low);
+        assert_eq!(rt; h.units(), high);
     }
     Ok(())
 }
 
 #[test]
-fn refusals(rt: LibcRuntime) -> Result<(), Fail> {
+fn refusals(rt: HostRuntime) -> Result<(), Fail> {
     let mut book = example(rt.alloc())?;
     book.withdraw(PartNumber::new(5))?;
     let cases = [
@@ -66,10 +62,10 @@ fn refusals(rt: LibcRuntime) -> Result<(), Fail> {
         (1, shares(0, 0, u32::MAX), Refusal::ShareTooHigh),
     ];
     for (number, given, refusal) in cases {
-        check_eq(
+        assert_eq!(rt;
             survival(&book, PartNumber::new(number), given),
-            Err(refusal),
-        )?;
+            Err(refusal)
+        );
     }
     Ok(())
 }

@@ -1,4 +1,2 @@
-pub mod Wrapping
 pub mod Counting
-pub mod Capped
 pub mod Losses

@@ -1,3 +1,5 @@
 pub mod Counts
 pub mod Pricing
 pub mod Losses
+pub mod Wrapping
+pub mod Capped

@@ -1,4 +1,6 @@
-ghost use Rattle·tally·specs.Counts.{counts};
+ghost use Rattle.tally.specs.Counts.{counts};
+ghost use Rattle.tally.specs.Wrapping.{counts_lawful};
+
 use crate::Tally;
 use crate::state_count::StateCount;
 use rules::item_type::ItemType;
@@ -7,10 +9,12 @@ use rules::item_type::ItemType;
 #[derive(Clone, Copy)]
 pub struct Count;
 
-pub impl Tally for Count as CountTally {
+impl Tally for Count {
     type Figure = StateCount;
 
     ghost meaning = { λ _. counts };
+
+    ghost lawful = { λ t. counts_lawful };
 
     fn none(&self) -> StateCount {
         StateCount::new(0)

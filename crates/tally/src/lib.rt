@@ -1,3 +1,5 @@
+#![tactic(auto)]
+
 pub mod count;
 pub mod loss;
 pub mod prices;
@@ -6,8 +8,9 @@ pub mod state_count;
 mod tests;
 pub mod theorems;
 
-ghost use mathlib.Core.Path.{_≡_};
-ghost use Rattle·sums.specs.Semiring.{Meaning, Semiring};
+ghost use Rattle.std.specs.Prelude.{◌≡◌};
+ghost use Rattle.sums.specs.Semiring.{Meaning, Semiring};
+
 use rules::item_type::ItemType;
 
 // A tally: figures that are added and multiplied, with one for a working and one for a failed item
@@ -17,25 +20,25 @@ pub trait Tally {
     type Figure: Copy;
 
     // The figures none and unit, plus and times, and the figures of each type.
-    ghost meaning: { Self → Meaning Self·Figure };
-
-    law lawful: { (t : Self) → Semiring (meaning t) };
+    ghost meaning: { Self → Meaning Self.Figure };
 
     fn none(&self) -> Self::Figure
-        ensures { λ r. ⌜ r ≡ meaning (now (self .entry)) .none ⌝ };
+        ensures { result ≡ (meaning self.now).none };
 
     fn unit(&self) -> Self::Figure
-        ensures { λ r. ⌜ r ≡ meaning (now (self .entry)) .unit ⌝ };
+        ensures { result ≡ (meaning self.now).unit };
 
     fn plus(&self, a: Self::Figure, b: Self::Figure) -> Self::Figure
-        ensures { λ r. ⌜ r ≡ meaning (now (self .entry)) .plus a b ⌝ };
+        ensures { result ≡ (meaning self.now).plus a b };
 
     fn times(&self, a: Self::Figure, b: Self::Figure) -> Self::Figure
-        ensures { λ r. ⌜ r ≡ meaning (now (self .entry)) .times a b ⌝ };
+        ensures { result ≡ (meaning self.now).times a b };
 
     fn working(&self, item_type: ItemType) -> Self::Figure
-        ensures { λ r. ⌜ r ≡ meaning (now (self .entry)) .working «item_type» ⌝ };
+        ensures { result ≡ (meaning self.now).working item_type };
 
     fn failed(&self, item_type: ItemType) -> Self::Figure
-        ensures { λ r. ⌜ r ≡ meaning (now (self .entry)) .failed «item_type» ⌝ };
+        ensures { result ≡ (meaning self.now).failed item_type };
+
+    ghost lawful: { (t : Self) → Semiring (meaning t) };
 }

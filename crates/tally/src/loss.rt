@@ -1,6 +1,6 @@
 mod access;
 
-ghost use Prim.Native.Nat.{_≤_};
+ghost use Rattle.std.specs.Prelude.{◌≤◌};
 
 // A total price of failed items. 4,294,967,295 is none: that no such items were found.
 #[derive(Clone, Copy, PartialEq, Eq, Debug)]

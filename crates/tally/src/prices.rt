@@ -1,8 +1,7 @@
 mod access;
 mod tallied;
 
-ghost use Prim.Native.Nat.{_≤_};
-pub use self::tallied::PricesTally;
+ghost use Rattle.std.specs.Prelude.{◌≤◌};
 
 // What the loss of an item costs, by its type: a price from 0 to 1,000,000 for each.
 #[derive(Clone, Copy, PartialEq, Eq, Debug)]

@@ -1,6 +1,6 @@
 mod access;
 
-ghost use Prim.Native.Nat.{_<_};
+ghost use Rattle.std.specs.Prelude.{◌<◌};
 
 // A number of states, modulo 2^32.
 #[derive(Clone, Copy, PartialEq, Eq, Debug)]

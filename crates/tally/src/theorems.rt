@@ -1,34 +1,35 @@
-ghost use Rattle·sums.specs.Blocks.{«Block-sums-stand»};
-ghost use Rattle·sums.specs.Order.{«Order-stands»};
-ghost use Rattle·tally·specs.Counts.{«Counts-stand»};
-ghost use Rattle·tally·specs.Losses.{«Cheapest-loss-stands»};
-ghost use Rattle·tally·specs.declared.prices.Prices.{Prices};
+ghost use Rattle.sums.specs.Blocks.{BlockSumsStand};
+ghost use Rattle.sums.specs.Order.{OrderStands};
+ghost use Rattle.tally.specs.Counts.{CountsStand};
+ghost use Rattle.tally.specs.Losses.{CheapestLossStands};
+ghost use Rattle.tally.specs.declared.prices.Prices.{Prices};
+
 use crate::Tally;
 
 // Under every tally the sums of a block follow from those of its lines.
 pub fn block_sums_stand<T: Tally>() -> u8
-    ensures { λ _. ⌜ ((t : T) → «Block-sums-stand» (T·Tally .meaning t)) ⌝ }
+    ensures { (t : T) → BlockSumsStand (T.Tally.meaning t) }
 {
     0
 }
 
 // Under every tally the sums over states do not depend on the order of the items.
 pub fn order_stands<T: Tally>() -> u8
-    ensures { λ _. ⌜ ((t : T) → «Order-stands» (T·Tally .meaning t)) ⌝ }
+    ensures { (t : T) → OrderStands (T.Tally.meaning t) }
 {
     0
 }
 
 // Under count the sums of a line are numbers of states.
 pub fn counts_stand() -> u8
-    ensures { λ _. ⌜ «Counts-stand» ⌝ }
+    ensures { CountsStand }
 {
     0
 }
 
 // Under prices the failing sum of a line is the cheapest loss that stops it.
 pub fn cheapest_loss_stands() -> u8
-    ensures { λ _. ⌜ ((p : Prices) → «Cheapest-loss-stands» p) ⌝ }
+    ensures { (p : Prices) → CheapestLossStands p }
 {
     0
 }

@@ -1,76 +1,65 @@
 -- The search for the first of a byte.
-use mathlib.Core.Path.{_≡_, refl, ap}
-use mathlib.Core.Bool.{false, cond}
-use mathlib.Core.Logic.{⊎-elim}
-use mathlib.Core.List.{List, [], _∷_}
-use Prim.Native.Nat.{ℕ, suc, _+_, _≤_, _<_}
-use native.Mathlib.Numerals.{add-one}
-use native.Mathlib.Omega.{arith}
-use lib.Dec.{eqb}
-use lib.ListN.{length, getD, take, drop, drop-of-length-le}
-use lib.Seq.{drop-cons}
-use borrow.Author.Tests.{eq-eqb, ne-eqb}
-use Rattle·std.proofs.shelf.Tests.{cases-bool}
-use Rattle·std.specs.declared.option.Option.the-variants.{Some, None}
-use Rattle·text·specs.Texts.{before, after, ended}
+use Rattle.std.proofs.Common.{◌≡◌, ℕ, suc, ◌+◌, ◌<◌, ◌≤◌, false, cond, eqb, List, [], ◌∷◌, length, get_or, take, drop, Some, None, refl, ap, ⊎_elim, add-one, arith, drop_of_length-le, drop-cons, eq-eqb, ne_eqb}
+use Rattle.std.proofs.lemmas.Bool.{cases_Bool}
+use Rattle.text.specs.Texts.{before, after, ended}
 
 -- how many bytes stand before the first byte b, or all where there is none
-abbrev pub up-to : ℕ → List ℕ → ℕ
-up-to b [] = 0
-up-to b (x ∷ xs) = cond (eqb x b) 0 (suc (up-to b xs))
+abbrev pub up_to : ℕ → List ℕ → ℕ
+up_to b [] = 0
+up_to b (x ∷ xs) = cond (eqb x b) 0 (suc (up_to b xs))
 
-pub up-to-here : (b i : ℕ) (s : List ℕ) → i < length s → getD s i 0 ≡ b → up-to b (drop i s) ≡ 0
-up-to-here b i s h e = let t = eq-eqb (getD s i 0) b e in rw (drop-cons s i 0, t)
+pub up_to_here : (b i : ℕ) (s : List ℕ) → i < length s → get_or s i 0 ≡ b → up_to b (drop i s) ≡ 0
+up_to_here b i s h e = let t = eq-eqb (get_or s i 0) b e in rw (drop-cons s i 0, t)
 
-pub up-to-past : (b i : ℕ) (s : List ℕ) → i < length s → (getD s i 0 ≡ b → ⊥) → up-to b (drop i s) ≡ suc (up-to b (drop (i + 1) s))
-up-to-past b i s h n = let t = ne-eqb (getD s i 0) b n in rw (add-one, drop-cons s i 0, t)
+pub up_to_past : (b i : ℕ) (s : List ℕ) → i < length s → (get_or s i 0 ≡ b → ⊥) → up_to b (drop i s) ≡ suc (up_to b (drop (i + 1) s))
+up_to_past b i s h n = let t = ne_eqb (get_or s i 0) b n in rw (add-one, drop-cons s i 0, t)
 
-pub up-to-end : (b i : ℕ) (s : List ℕ) → length s ≤ i → up-to b (drop i s) ≡ 0
-up-to-end b i s h = rw (drop-of-length-le s)
+pub up_to_end : (b i : ℕ) (s : List ℕ) → length s ≤ i → up_to b (drop i s) ≡ 0
+up_to_end b i s h = rw (drop_of_length-le s)
 
-pub before-is : (b : ℕ) (s : List ℕ) → take (up-to b s) s ≡ before b s
-before-is b [] = refl
-before-is b (x ∷ s) = ⊎-elim (λ e. rw e) (λ e. rw e (ap (λ l. x ∷ l) (before-is b s))) (cases-bool (eqb x b))
+pub before_is : (b : ℕ) (s : List ℕ) → take (up_to b s) s ≡ before b s
+before_is b [] = refl
+before_is b (x ∷ s) = ⊎_elim (λ e. rw e) (λ e. rw e (ap (λ l. x ∷ l) (before_is b s))) (cases_Bool (eqb x b))
 
-pub after-some : (b : ℕ) (s : List ℕ) → up-to b s < length s → Some (drop (suc (up-to b s)) s) ≡ after b s
-after-some b [] h = absurd (omega arith)
-after-some b (x ∷ s) h =
-    ⊎-elim
+pub after_some : (b : ℕ) (s : List ℕ) → up_to b s < length s → Some (drop (suc (up_to b s)) s) ≡ after b s
+after_some b [] h = absurd (omega arith)
+after_some b (x ∷ s) h =
+    ⊎_elim
     (λ e. rw e)
-    (λ e. let h′ : suc (up-to b s) < suc (length s) = rw e at h in rw e (after-some b s (omega arith)))
-    (cases-bool (eqb x b))
+    (λ e. let h' : suc (up_to b s) < suc (length s) = rw e at h in rw e (after_some b s (omega arith)))
+    (cases_Bool (eqb x b))
 
-pub all-before : (b : ℕ) (s : List ℕ) → length s ≤ up-to b s → s ≡ before b s
-all-before b [] h = refl
-all-before b (x ∷ s) h =
-    ⊎-elim
-    (λ e. let h′ : suc (length s) ≤ 0 = rw e at h in absurd (omega arith))
-    (λ e. let h′ : suc (length s) ≤ suc (up-to b s) = rw e at h in rw e (ap (λ l. x ∷ l) (all-before b s (omega arith))))
-    (cases-bool (eqb x b))
+pub all_before : (b : ℕ) (s : List ℕ) → length s ≤ up_to b s → s ≡ before b s
+all_before b [] h = refl
+all_before b (x ∷ s) h =
+    ⊎_elim
+    (λ e. let h' : suc (length s) ≤ 0 = rw e at h in absurd (omega arith))
+    (λ e. let h' : suc (length s) ≤ suc (up_to b s) = rw e at h in rw e (ap (λ l. x ∷ l) (all_before b s (omega arith))))
+    (cases_Bool (eqb x b))
 
-pub none-after : (b : ℕ) (s : List ℕ) → length s ≤ up-to b s → None ≡ after b s
-none-after b [] h = refl
-none-after b (x ∷ s) h =
-    ⊎-elim
-    (λ e. let h′ : suc (length s) ≤ 0 = rw e at h in absurd (omega arith))
-    (λ e. let h′ : suc (length s) ≤ suc (up-to b s) = rw e at h in rw e (none-after b s (omega arith)))
-    (cases-bool (eqb x b))
+pub none_after : (b : ℕ) (s : List ℕ) → length s ≤ up_to b s → None ≡ after b s
+none_after b [] h = refl
+none_after b (x ∷ s) h =
+    ⊎_elim
+    (λ e. let h' : suc (length s) ≤ 0 = rw e at h in absurd (omega arith))
+    (λ e. let h' : suc (length s) ≤ suc (up_to b s) = rw e at h in rw e (none_after b s (omega arith)))
+    (cases_Bool (eqb x b))
 
 -- with a byte b the text is what stands before it, the byte, and what follows it
-pub after-length : (b : ℕ) (s r : List ℕ) → after b s ≡ Some r → length s ≡ length (before b s) + suc (length r)
-after-length b [] r h = absurd (let z : _≡_ {A = ℕ} 0 1 = cc in omega arith)
-after-length b (x ∷ s) r h =
-    ⊎-elim
-    (λ e. let h′ : Some s ≡ Some r = rw e at h in let q : s ≡ r = cc in let k = ap length q in rw e (omega arith))
-    (λ e. let h′ : after b s ≡ Some r = rw e at h in let q = after-length b s r h′ in rw e (omega arith))
-    (cases-bool (eqb x b))
+pub after_length : (b : ℕ) (s r : List ℕ) → after b s ≡ Some r → length s ≡ length (before b s) + suc (length r)
+after_length b [] r h = absurd (let z : ◌≡◌ {A = ℕ} 0 1 = cc in omega arith)
+after_length b (x ∷ s) r h =
+    ⊎_elim
+    (λ e. let h' : Some s ≡ Some r = rw e at h in let q : s ≡ r = cc in let k = ap length q in rw e (omega arith))
+    (λ e. let h' : after b s ≡ Some r = rw e at h in let q = after_length b s r h' in rw e (omega arith))
+    (cases_Bool (eqb x b))
 
 -- what stands before it is no longer than the text
-pub before-length : (b : ℕ) (s : List ℕ) → length (before b s) ≤ length s
-before-length b [] = omega arith
-before-length b (x ∷ s) = let h = before-length b s in ⊎-elim (λ e. rw e (omega arith)) (λ e. rw e (omega arith)) (cases-bool (eqb x b))
+pub before_length : (b : ℕ) (s : List ℕ) → length (before b s) ≤ length s
+before_length b [] = omega arith
+before_length b (x ∷ s) = let h = before_length b s in ⊎_elim (λ e. rw e (omega arith)) (λ e. rw e (omega arith)) (cases_Bool (eqb x b))
 
 -- an empty text does not end with byte 10
-pub empty-ended : (t : List ℕ) → length t ≤ 0 → false ≡ ended t
-empty-ended [] h = refl
-empty-ended (b ∷ t) h = absurd (omega arith)
+pub empty_ended : (t : List ℕ) → length t ≤ 0 → false ≡ ended t
+empty_ended [] h = refl
+empty_ended (b ∷ t) h = absurd (omega arith)

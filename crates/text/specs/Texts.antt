@@ -1,11 +1,5 @@
 -- A text is a list of bytes. Its lines and their words.
-use mathlib.Core.Bool.{Bool, cond}
-use mathlib.Core.List.{List, [], _∷_}
-use Prim.Native.Nat.{ℕ, suc, _+_, _-_}
-use lib.Dec.{eqb}
-use lib.ListN.{length, getD}
-use Rattle·std.specs.declared.option.Option.{Option}
-use Rattle·std.specs.declared.option.Option.the-variants.{Some, None}
+use Rattle.std.specs.Prelude.{ℕ, suc, ◌+◌, ◌-◌, Bool, cond, List, [], ◌∷◌, length, Some, None, Option, ◌==◌, slice_index}
 
 -- one byte more at the front of the first part
 abbrev pub longer : ℕ → List (List ℕ) → List (List ℕ)
@@ -13,18 +7,18 @@ longer b [] = []
 longer b (part ∷ parts) = (b ∷ part) ∷ parts
 
 -- the lines of a text: each is ended by byte 10, and bytes after the last byte 10 are no line
-abbrev pub lines-in : List ℕ → List (List ℕ)
-lines-in [] = []
-lines-in (b ∷ text) = cond (eqb b 10) ([] ∷ lines-in text) (longer b (lines-in text))
+abbrev pub lines_in : List ℕ → List (List ℕ)
+lines_in [] = []
+lines_in (b ∷ text) = cond (b == 10) ([] ∷ lines_in text) (longer b (lines_in text))
 
 -- the words of a line: one byte 32 stands between a word and the next
-abbrev pub words-in : List ℕ → List (List ℕ)
-words-in [] = [] ∷ []
-words-in (b ∷ line) = cond (eqb b 32) ([] ∷ words-in line) (longer b (words-in line))
+abbrev pub words_in : List ℕ → List (List ℕ)
+words_in [] = [] ∷ []
+words_in (b ∷ line) = cond (b == 32) ([] ∷ words_in line) (longer b (words_in line))
 
 -- whether the last byte of a text is byte 10
 abbrev pub ended : List ℕ → Bool
-ended text = eqb (getD text (length text - 1) 0) 10
+ended text = slice_index text (length text - 1) == 10
 
 -- a line of a text: its bytes but the byte 10, its number from 1, and the place of its first byte from 0
 pub record Line : Type 0 where
@@ -37,8 +31,8 @@ abbrev pub numbered : ℕ → ℕ → List (List ℕ) → List Line
 numbered n p [] = []
 numbered n p (line ∷ lines) = record { bytes = line; number = n; place = p } ∷ numbered (suc n) (p + suc (length line)) lines
 
-abbrev pub lines-of : List ℕ → List Line
-lines-of text = numbered 1 0 (lines-in text)
+abbrev pub lines_of : List ℕ → List Line
+lines_of text = numbered 1 0 (lines_in text)
 
 -- the first of a list, and the others
 abbrev pub first : {X : Type 0} → List X → Option X
@@ -50,21 +44,21 @@ others [] = []
 others (x ∷ xs) = xs
 
 -- the last of a list, or d if it is empty; and those before it
-abbrev pub last-or : {X : Type 0} → Option X → List X → Option X
-last-or d [] = d
-last-or d (x ∷ xs) = last-or (Some x) xs
+abbrev pub last_or : {X : Type 0} → Option X → List X → Option X
+last_or d [] = d
+last_or d (x ∷ xs) = last_or (Some x) xs
 
-abbrev pub but-last : {X : Type 0} → List X → List X
-but-last [] = []
-but-last (x ∷ []) = []
-but-last (x ∷ y ∷ xs) = x ∷ but-last (y ∷ xs)
+abbrev pub but_last : {X : Type 0} → List X → List X
+but_last [] = []
+but_last (x ∷ []) = []
+but_last (x ∷ y ∷ xs) = x ∷ but_last (y ∷ xs)
 
 -- the bytes before the first byte b, or all where there is none
 abbrev pub before : ℕ → List ℕ → List ℕ
 before b [] = []
-before b (x ∷ xs) = cond (eqb x b) [] (x ∷ before b xs)
+before b (x ∷ xs) = cond (x == b) [] (x ∷ before b xs)
 
 -- the bytes after the first byte b, if there is one
 abbrev pub after : ℕ → List ℕ → Option (List ℕ)
 after b [] = None
-after b (x ∷ xs) = cond (eqb x b) (Some xs) (after b xs)
+after b (x ∷ xs) = cond (x == b) (Some xs) (after b xs)

@@ -1,11 +1,11 @@
-ghost use mathlib.Core.Path.{_≡_};
-ghost use Rattle·std.specs.Options.{mapped};
-ghost use Rattle·text·specs.Texts.{before, after, ended};
+ghost use Rattle.std.specs.Prelude.{◌≡◌};
+ghost use Rattle.std.specs.Option.{option_map};
+ghost use Rattle.text.specs.Texts.{before, after, ended};
 
 // The bytes before the first `byte`, and those after it, if there is one.
 pub fn cut<'a>(text: &'a [u8], byte: u8) -> (&'a [u8], Option<&'a [u8]>)
-    ensures front { λ r. ⌜ now (r .0) ≡ before byte (now (text .entry)) ⌝ }
-    ensures rest { λ r. ⌜ mapped now (r .1) ≡ after byte (now (text .entry)) ⌝ }
+    ensures front { result.0.now ≡ before byte text.now }
+    ensures rest { option_map (λ x. x.now) result.1 ≡ after byte text.now }
 {
     for (i, b) in text.iter().enumerate() {
         if *b == byte {
@@ -17,7 +17,7 @@ pub fn cut<'a>(text: &'a [u8], byte: u8) -> (&'a [u8], Option<&'a [u8]>)
 
 // Whether the last byte is byte 10.
 pub fn is_ended(text: &[u8]) -> bool
-    ensures { λ r. ⌜ r ≡ ended (now (text .entry)) ⌝ }
+    ensures { result ≡ ended text.now }
 {
     match text.last() {
         None => false,

@@ -1,10 +1,8 @@
-ghost use mathlib.Core.Path.{_≡_};
-ghost use Prim.Native.Nat.{_^_, _<_};
-ghost use lib.ListN.{length};
-ghost use Rattle·std.specs.Options.{mapped, Cases as BySome};
-ghost use Rattle·text·specs.Texts.{lines-of, first, others, last-or};
-ghost use Rattle·std.specs.declared.option.Option.the-variants.{None};
-ghost use Rattle·text·specs.Cursors.{line-seen, lines-left, lines-end, Lines-fit, Ends-within};
+ghost use Rattle.std.specs.Prelude.{◌≡◌, ◌^◌, ◌<◌, length, IfSome, None};
+ghost use Rattle.std.specs.Option.{option_map};
+ghost use Rattle.text.specs.Texts.{lines_of, first, others, last_or};
+ghost use Rattle.text.specs.Cursors.{line_seen, lines_left, lines_end, LinesFit, EndsWithin};
+
 use crate::bytes::cut;
 
 // A line of a text: its bytes but the byte 10, its number from 1, and the place of its first byte.
@@ -26,10 +24,10 @@ pub struct Lines<'a> {
 
 impl<'a> Lines<'a> {
     pub fn new(text: &'a [u8]) -> Lines<'a>
-        requires { ⌜ length (now text) < 2 ^ 64 ⌝ }
-        ensures left { λ r. ⌜ lines-left r ≡ lines-of (now (text .entry)) ⌝ }
-        ensures end { λ r. ⌜ lines-end r ≡ length (now (text .entry)) ⌝ }
-        ensures fit { λ r. ⌜ Lines-fit r ⌝ }
+        requires { length text.now < 2 ^ 64 }
+        ensures left { lines_left result ≡ lines_of text.now }
+        ensures end { lines_end result ≡ length text.now }
+        ensures fit { LinesFit result }
     {
         Lines {
             text,
@@ -40,12 +38,12 @@ impl<'a> Lines<'a> {
 
     // Takes the next line.
     pub fn next(&mut self) -> Option<SheetLine<'a>>
-        requires { ⌜ Lines-fit (now self) ⌝ }
-        ensures line { λ r. ⌜ mapped line-seen r ≡ first (lines-left (now (self .entry))) ⌝ }
-        ensures left { λ r. ⌜ lines-left (now (self .exit)) ≡ others (lines-left (now (self .entry))) ⌝ }
-        ensures end { λ r. ⌜ lines-end (now (self .exit)) ≡ lines-end (now (self .entry)) ⌝ }
-        ensures fit { λ r. ⌜ Lines-fit (now (self .exit)) ⌝ }
-        ensures within { λ r. ⌜ BySome r (Unit {0}) (λ line. Ends-within (lines-end (now (self .entry))) line) ⌝ }
+        requires { LinesFit self.old }
+        ensures line { option_map line_seen result ≡ first (lines_left self.old) }
+        ensures left { lines_left self.new ≡ others (lines_left self.old) }
+        ensures end { lines_end self.new ≡ lines_end self.old }
+        ensures fit { LinesFit self.new }
+        ensures within { IfSome result (λ line. EndsWithin (lines_end self.old) line) }
     {
         let (bytes, rest) = cut(self.text, b'\n');
         match rest {
@@ -67,9 +65,9 @@ impl<'a> Lines<'a> {
 
 // The last line of a text, if it has one.
 pub fn last_line<'a>(text: &'a [u8]) -> Option<SheetLine<'a>>
-    requires { ⌜ length (now text) < 2 ^ 64 ⌝ }
-    ensures line { λ r. ⌜ mapped line-seen r ≡ last-or None (lines-of (now (text .entry))) ⌝ }
-    ensures within { λ r. ⌜ BySome r (Unit {0}) (λ line. Ends-within (length (now (text .entry))) line) ⌝ }
+    requires { length text.now < 2 ^ 64 }
+    ensures line { option_map line_seen result ≡ last_or None (lines_of text.now) }
+    ensures within { IfSome result (λ line. EndsWithin (length text.now) line) }
 {
     let mut lines = Lines::new(text);
     let mut last = None;

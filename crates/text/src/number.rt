@@ -1,11 +1,9 @@
-ghost use mathlib.Core.Path.{_≡_};
-ghost use Prim.Native.Nat.{_≤_};
-ghost use lib.ListN.{length};
-ghost use Rattle·text·specs.Numbers.{number-in, decimal-after};
+ghost use Rattle.std.specs.Prelude.{◌≡◌, ◌≤◌, length};
+ghost use Rattle.text.specs.Numbers.{number_in, decimal_after};
 
 // The number that a word stands for: one to five digits, and no leading zero but in `0` itself.
 pub fn read_number(word: &[u8]) -> Option<u32>
-    ensures { λ r. ⌜ r ≡ number-in (now (word .entry)) ⌝ }
+    ensures { result ≡ number_in word.now }
 {
     match word {
         [] => None,
@@ -22,8 +20,8 @@ pub fn read_number(word: &[u8]) -> Option<u32>
 
 // The value of at most five digits, or None where a byte is no digit.
 fn read_digits(word: &[u8]) -> Option<u32>
-    requires { ⌜ length (now word) ≤ 5 ⌝ }
-    ensures { λ r. ⌜ r ≡ decimal-after 0 (now (word .entry)) ⌝ }
+    requires { length word.now ≤ 5 }
+    ensures { result ≡ decimal_after 0 word.now }
 {
     let mut n: u32 = 0;
     for b in word {

@@ -1,10 +1,10 @@
-ghost use mathlib.Core.Path.{_≡_};
-ghost use Rattle·text·specs.Cursors.{tokens-left, Words-fit, line-seen, Line-fits};
-ghost use Rattle·text·specs.Readings.{one-number, two-numbers, change-by, closing-by, joined, change-of, closing-of};
-ghost use Rattle·std.specs.Options.{mapped};
+ghost use Rattle.std.specs.Prelude.{◌≡◌};
+ghost use Rattle.text.specs.Cursors.{tokens_left, WordsFit, line_seen, LineFits};
+ghost use Rattle.text.specs.Readings.{one_number, two_numbers, change_by, closing_by, joined, change_of, closing_of};
+ghost use Rattle.std.specs.Option.{option_map};
+
 use crate::lines::SheetLine;
-use crate::token::Token;
-use crate::token::Verb;
+use crate::token::{Token, Verb};
 use crate::words::Words;
 use rules::change::Change;
 use rules::kind::Kind;
@@ -13,8 +13,8 @@ use rules::part_number::PartNumber;
 impl<'a> Words<'a> {
     // The number that the words are: one number word.
     fn one_number(mut self) -> Option<u32>
-        requires { ⌜ Words-fit self ⌝ }
-        ensures { λ r. ⌜ r ≡ one-number (tokens-left (self .entry)) ⌝ }
+        requires { WordsFit self }
+        ensures { result ≡ one_number (tokens_left self.entry) }
     {
         match self.next() {
             None => None,
@@ -27,8 +27,8 @@ impl<'a> Words<'a> {
 
     // The two numbers that the words are: two number words.
     fn two_numbers(mut self) -> Option<(u32, u32)>
-        requires { ⌜ Words-fit self ⌝ }
-        ensures { λ r. ⌜ r ≡ two-numbers (tokens-left (self .entry)) ⌝ }
+        requires { WordsFit self }
+        ensures { result ≡ two_numbers (tokens_left self.entry) }
     {
         match self.next() {
             None => None,
@@ -44,8 +44,8 @@ impl<'a> Words<'a> {
 
     // The joining of the two lines that the words name.
     fn joining(self, kind: Kind) -> Option<Change>
-        requires { ⌜ Words-fit self ⌝ }
-        ensures { λ r. ⌜ r ≡ mapped (joined kind) (two-numbers (tokens-left (self .entry))) ⌝ }
+        requires { WordsFit self }
+        ensures { result ≡ option_map (joined kind) (two_numbers (tokens_left self.entry)) }
     {
         match self.two_numbers() {
             None => None,
@@ -55,8 +55,8 @@ impl<'a> Words<'a> {
 
     // The change that the verb and the words after it ask for.
     fn change_by(self, verb: Verb) -> Option<Change>
-        requires { ⌜ Words-fit self ⌝ }
-        ensures { λ r. ⌜ r ≡ change-by verb (tokens-left (self .entry)) ⌝ }
+        requires { WordsFit self }
+        ensures { result ≡ change_by verb (tokens_left self.entry) }
     {
         match verb {
             Verb::Issue => match self.one_number() {
@@ -75,8 +75,8 @@ impl<'a> Words<'a> {
 
     // The numbers of a closing line, from its verb and the words after it.
     fn closing_by(self, verb: Verb) -> Option<(u32, u32)>
-        requires { ⌜ Words-fit self ⌝ }
-        ensures { λ r. ⌜ r ≡ closing-by verb (tokens-left (self .entry)) ⌝ }
+        requires { WordsFit self }
+        ensures { result ≡ closing_by verb (tokens_left self.entry) }
     {
         match verb {
             Verb::Close => self.two_numbers(),
@@ -88,8 +88,8 @@ impl<'a> Words<'a> {
 impl<'a> SheetLine<'a> {
     // The change that the line asks for; None if it has no such form.
     pub fn change(self) -> Option<Change>
-        requires { ⌜ Line-fits self ⌝ }
-        ensures { λ r. ⌜ r ≡ change-of (line-seen (self .entry)) ⌝ }
+        requires { LineFits self }
+        ensures { result ≡ change_of (line_seen self.entry) }
     {
         let mut words = Words::new(self.bytes, self.place);
         match words.next() {
@@ -101,8 +101,8 @@ impl<'a> SheetLine<'a> {
 
     // The numbers of a closing line; None if it is none.
     pub fn closing(self) -> Option<(u32, u32)>
-        requires { ⌜ Line-fits self ⌝ }
-        ensures { λ r. ⌜ r ≡ closing-of (line-seen (self .entry)) ⌝ }
+        requires { LineFits self }
+        ensures { result ≡ closing_of (line_seen self.entry) }
     {
         let mut words = Words::new(self.bytes, self.place);
         match words.next() {

@@ -1,6 +1,7 @@
-ghost use mathlib.Core.Path.{_≡_};
-ghost use Rattle·text·specs.Tokens.{verb-of, seen, token-of};
-ghost use Rattle·text·specs.Readings.{value};
+ghost use Rattle.std.specs.Prelude.{◌≡◌};
+ghost use Rattle.text.specs.Tokens.{verb_of, seen, token_of};
+ghost use Rattle.text.specs.Readings.{value};
+
 use crate::number::read_number;
 
 // What a line asks for, which its first letter decides.
@@ -22,7 +23,7 @@ pub enum Token<'a> {
 
 impl Verb {
     pub fn from_letter(letter: char) -> Option<Verb>
-        ensures { λ r. ⌜ r ≡ verb-of letter ⌝ }
+        ensures { result ≡ verb_of letter }
     {
         match letter {
             'I' => Some(Verb::Issue),
@@ -37,7 +38,7 @@ impl Verb {
 
 impl<'a> Token<'a> {
     pub fn new(word: &'a [u8], place: usize) -> Token<'a>
-        ensures { λ r. ⌜ seen r ≡ token-of (now (word .entry)) place ⌝ }
+        ensures { seen result ≡ token_of word.now place }
     {
         match word {
             [letter] => match Verb::from_letter(*letter as char) {
@@ -50,7 +51,7 @@ impl<'a> Token<'a> {
 
     // The number that the token stands for; a verb is none.
     pub fn number(self) -> Option<u32>
-        ensures { λ r. ⌜ r ≡ value (seen (self .entry)) ⌝ }
+        ensures { result ≡ value (seen self.entry) }
     {
         match self {
             Token::Verb(_, _) => None,

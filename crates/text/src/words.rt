@@ -1,10 +1,9 @@
-ghost use mathlib.Core.Path.{_≡_};
-ghost use Prim.Native.Nat.{suc, _+_, _^_, _<_};
-ghost use lib.ListN.{length};
-ghost use Rattle·std.specs.Options.{mapped};
-ghost use Rattle·text·specs.Texts.{first, others};
-ghost use Rattle·text·specs.Tokens.{seen, tokens};
-ghost use Rattle·text·specs.Cursors.{tokens-left, Words-fit};
+ghost use Rattle.std.specs.Prelude.{◌≡◌, suc, ◌+◌, ◌^◌, ◌<◌, length};
+ghost use Rattle.std.specs.Option.{option_map};
+ghost use Rattle.text.specs.Texts.{first, others};
+ghost use Rattle.text.specs.Tokens.{seen, tokens};
+ghost use Rattle.text.specs.Cursors.{tokens_left, WordsFit};
+
 use crate::bytes::cut;
 use crate::token::Token;
 
@@ -18,9 +17,9 @@ pub struct Words<'a> {
 impl<'a> Words<'a> {
     // The words of a line that begins at `place`.
     pub fn new(line: &'a [u8], place: usize) -> Words<'a>
-        requires { ⌜ place + suc (length (now line)) < 2 ^ 64 ⌝ }
-        ensures left { λ r. ⌜ tokens-left r ≡ tokens place (now (line .entry)) ⌝ }
-        ensures fit { λ r. ⌜ Words-fit r ⌝ }
+        requires { place + suc (length line.now) < 2 ^ 64 }
+        ensures left { tokens_left result ≡ tokens place line.now }
+        ensures fit { WordsFit result }
     {
         Words {
             rest: Some(line),
@@ -30,10 +29,10 @@ impl<'a> Words<'a> {
 
     // Takes the next word.
     pub fn next(&mut self) -> Option<Token<'a>>
-        requires { ⌜ Words-fit (now self) ⌝ }
-        ensures token { λ r. ⌜ mapped seen r ≡ first (tokens-left (now (self .entry))) ⌝ }
-        ensures left { λ r. ⌜ tokens-left (now (self .exit)) ≡ others (tokens-left (now (self .entry))) ⌝ }
-        ensures fit { λ r. ⌜ Words-fit (now (self .exit)) ⌝ }
+        requires { WordsFit self.old }
+        ensures token { option_map seen result ≡ first (tokens_left self.old) }
+        ensures left { tokens_left self.new ≡ others (tokens_left self.old) }
+        ensures fit { WordsFit self.new }
     {
         match self.rest {
             None => None,

@@ -1,37 +1,24 @@
 use crate::command::Command;
-use crate::figures::CellTableShown;
-use crate::figures::LossShown;
-use crate::figures::StateCountShown;
-use crate::figures::show_row;
-use crate::figures::show_survey;
-use crate::piles::show_paths;
-use crate::piles::show_plan;
+use crate::figures::{show_row, show_survey};
+use crate::piles::{show_paths, show_plan};
 use account::account;
 use book::book::Book;
 use line_plan::LinePlan;
-use line_plan::LinePlanPlan;
 use plan::path_list::PathList;
-use plan::path_list::PathListPlan;
 use rules::kind::Kind;
-use rules::line::Line;
-use rules::line::Part;
+use rules::line::{Line, Part};
 use rules::part_number::PartNumber;
 use rules::refusal::Refusal;
 use sheet::entering::enter;
-use sheet::fault::Fault;
-use sheet::fault::Layer;
+use sheet::fault::{Fault, Layer};
 use signature::Signature;
-use signature::SignatureTally;
 use std::alloc::Global;
-use std::error::AnyError;
 use std::io;
 use std::io::Write;
 use survival::fixed_point::FixedPoint;
 use survival::survival;
 use tally::count::Count;
-use tally::count::CountTally;
 use tally::prices::Prices;
-use tally::prices::PricesTally;
 
 // Makes the call that the command asks for, and shows what it answers.
 pub fn answer<W: Write>(
@@ -39,7 +26,7 @@ pub fn answer<W: Write>(
     book: &mut Book,
     command: Command,
     out: &mut W,
-) -> Result<(), AnyError> {
+) -> anyhow::Result<()> {
     match command {
         Command::New => {
             *book = Book::new(heap)?;

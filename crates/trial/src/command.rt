@@ -1,9 +1,9 @@
 use crate::hex::read_hex;
+use anyhow::anyhow;
 use place_set::PlaceSet;
 use rules::kind::Kind;
 use rules::part_number::PartNumber;
 use std::alloc::Global;
-use std::error::AnyError;
 use survival::shares::Shares;
 
 // A layer that is to be laid over a plan.
@@ -49,7 +49,7 @@ pub enum Command {
 }
 
 impl Command {
-    pub fn read(heap: Global, line: &str) -> Result<Command, AnyError> {
+    pub fn read(heap: Global, line: &str) -> anyhow::Result<Command> {
         let words: Vec<&str> = line.split(' ').collect(heap)?;
         match words.as_slice() {
             ["new"] => Ok(Command::New),
@@ -71,7 +71,7 @@ impl Command {
 }
 
 // The commands that ask for figures of a line.
-fn read_figures(words: &[&str]) -> Result<Command, AnyError> {
+fn read_figures(words: &[&str]) -> anyhow::Result<Command> {
     match words {
         ["count", number, places] => Ok(Command::Count(read_survey(number, places)?)),
         ["signature", number, places] => Ok(Command::Signature(read_survey(number, places)?)),
@@ -90,27 +90,27 @@ fn read_figures(words: &[&str]) -> Result<Command, AnyError> {
             };
             Ok(Command::Survival(part(number)?, shares))
         }
-        _ => Err("no such command".into()),
+        _ => Err(anyhow!("no such command")),
     }
 }
 
-fn part(word: &str) -> Result<PartNumber, AnyError> {
+fn part(word: &str) -> anyhow::Result<PartNumber> {
     Ok(PartNumber::new(word.parse::<u32>()?))
 }
 
-fn read_kind(word: &str) -> Result<Kind, AnyError> {
+fn read_kind(word: &str) -> anyhow::Result<Kind> {
     match word {
         "S" => Ok(Kind::Series),
         "P" => Ok(Kind::Parallel),
-        _ => Err("no such kind".into()),
+        _ => Err(anyhow!("no such kind")),
     }
 }
 
-fn read_churn(item_type: &str, times: &str) -> Result<Command, AnyError> {
+fn read_churn(item_type: &str, times: &str) -> anyhow::Result<Command> {
     Ok(Command::Churn(item_type.parse::<u32>()?, times.parse::<u32>()?))
 }
 
-fn read_survey(number: &str, places: &str) -> Result<Survey, AnyError> {
+fn read_survey(number: &str, places: &str) -> anyhow::Result<Survey> {
     Ok(Survey {
         number: part(number)?,
         places: places.parse::<u16>()?,
@@ -118,19 +118,19 @@ fn read_survey(number: &str, places: &str) -> Result<Survey, AnyError> {
 }
 
 // Sixteen types, the number of paths, the paths, and the layers.
-fn read_paths(heap: Global, words: &[&str]) -> Result<PathScript, AnyError> {
+fn read_paths(heap: Global, words: &[&str]) -> anyhow::Result<PathScript> {
     let Some((types, rest)) = words.split_at_checked(16) else {
-        return Err("a path list has 16 types".into());
+        return Err(anyhow!("a path list has 16 types"));
     };
     let mut numbers = [0u8; 16];
     for place in 0..16usize {
         numbers[place] = types[place].parse::<u8>()?;
     }
     let Some((count, rest)) = rest.split_first() else {
-        return Err("the number of paths is missing".into());
+        return Err(anyhow!("the number of paths is missing"));
     };
     let Some((masks, rest)) = rest.split_at_checked(count.parse::<usize>()?) else {
-        return Err("a path is missing".into());
+        return Err(anyhow!("a path is missing"));
     };
     let mut paths = Vec::new(heap);
     for mask in masks {
@@ -144,9 +144,9 @@ fn read_paths(heap: Global, words: &[&str]) -> Result<PathScript, AnyError> {
     })
 }
 
-fn read_layers(heap: Global, words: &[&str]) -> Result<Vec<Layer>, AnyError> {
+fn read_layers(heap: Global, words: &[&str]) -> anyhow::Result<Vec<Layer>> {
     if words.len() > 3 {
-        return Err("more than three layers".into());
+        return Err(anyhow!("more than three layers"));
     }
     let mut layers = Vec::new(heap);
     for word in words {
@@ -155,12 +155,12 @@ fn read_layers(heap: Global, words: &[&str]) -> Result<Vec<Layer>, AnyError> {
     Ok(layers)
 }
 
-fn read_layer(word: &str) -> Result<Layer, AnyError> {
+fn read_layer(word: &str) -> anyhow::Result<Layer> {
     if word == "M" {
         return Ok(Layer::Mirror);
     }
     match word.strip_prefix('L') {
         Some(place) => Ok(Layer::Lockout(place.parse::<u8>()?)),
-        None => Err("no such layer".into()),
+        None => Err(anyhow!("no such layer")),
     }
 }

@@ -3,13 +3,10 @@ use crate::command::Survey;
 use book::book::Book;
 use cells::table::CellTable;
 use row::failure_row;
-use std::alloc::AllocError;
-use std::alloc::Global;
-use std::error::AnyError;
+use std::alloc::{AllocError, Global};
 use std::io;
 use std::io::Write;
-use survey::bench::Bench;
-use survey::bench::Sums;
+use survey::bench::{Bench, Sums};
 use survey::survey;
 use tally::Tally;
 use tally::loss::Loss;
@@ -29,7 +26,7 @@ fn junk_number(place: u16) -> u32 {
     4_000_000_000 + place as u32
 }
 
-pub impl Shown for StateCount as StateCountShown {
+impl Shown for StateCount {
     fn junk(place: u16) -> StateCount {
         StateCount::new(junk_number(place))
     }
@@ -44,7 +41,7 @@ pub impl Shown for StateCount as StateCountShown {
     }
 }
 
-pub impl Shown for Loss as LossShown {
+impl Shown for Loss {
     fn junk(place: u16) -> Loss {
         Loss::new(junk_number(place))
     }
@@ -63,7 +60,7 @@ fn junk_cell(place: u16, k: u16) -> u16 {
     40_000u16.wrapping_add(place).wrapping_add(k)
 }
 
-pub impl Shown for CellTable as CellTableShown {
+impl Shown for CellTable {
     fn junk(place: u16) -> CellTable {
         let mut cells = [0u16; 512];
         for k in 0..512u16 {
@@ -127,7 +124,7 @@ pub fn show_survey<T: Tally, W: Write>(
     tally: &T,
     asked: Survey,
     out: &mut W,
-) -> Result<(), AnyError>
+) -> anyhow::Result<()>
 where
     T::Figure: Shown + Drop,
 {
@@ -147,7 +144,7 @@ pub fn show_row<W: Write>(
     book: &Book,
     asked: Survey,
     out: &mut W,
-) -> Result<(), AnyError> {
+) -> anyhow::Result<()> {
     let mut places = junk_places::<CellTable>(heap, asked.places)?;
     let mut bench = Bench::new(places.as_mut_slice());
     let mut row = [junk_number(0); 7];

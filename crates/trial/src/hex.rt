@@ -1,18 +1,18 @@
-ghost use Prim.Native.Nat.{_<_};
-ghost use Rattle·std.specs.Options.{Cases};
+ghost use Rattle.std.specs.Prelude.{◌<◌, IfSome};
+
+use anyhow::{Context, anyhow};
 use std::alloc::Global;
-use std::error::AnyError;
 
 // The bytes that a word writes, two hexadecimal digits each.
-pub fn read_hex(heap: Global, word: &str) -> Result<Vec<u8>, AnyError> {
+pub fn read_hex(heap: Global, word: &str) -> anyhow::Result<Vec<u8>> {
     let digits = word.as_bytes();
     if digits.len() % 2 != 0 {
-        return Err("an odd number of hexadecimal digits".into());
+        return Err(anyhow!("an odd number of hexadecimal digits"));
     }
     let mut bytes = Vec::new(heap);
     for pair in digits.chunks_exact(2) {
-        let high = digit(pair[0]).ok_or("no hexadecimal digit")?;
-        let low = digit(pair[1]).ok_or("no hexadecimal digit")?;
+        let high = digit(pair[0]).context("no hexadecimal digit")?;
+        let low = digit(pair[1]).context("no hexadecimal digit")?;
         bytes.push(16 * high + low)?;
     }
     Ok(bytes)
@@ -20,7 +20,7 @@ pub fn read_hex(heap: Global, word: &str) -> Result<Vec<u8>, AnyError> {
 
 // The value of a hexadecimal digit.
 fn digit(byte: u8) -> Option<u8>
-    ensures { λ r. ⌜ Cases r (Unit {0}) (λ value. value < 16) ⌝ }
+    ensures { IfSome result (λ value. value < 16) }
 {
     match byte {
         b'0'..=b'9' => Some(byte - b'0'),

@@ -28,6 +28,8 @@
 // A refusal is `refused R`. A bench and a table hold junk before the call, and are shown after it,
 // also after a refusal; what still holds its junk is shown as `junk`. A table is shown by its cells
 // that are not 0, as ABC:VALUE, or as 0 if it has none. A line that is no command ends the program.
+#![tactic(auto)]
+
 mod answers;
 mod command;
 mod figures;
@@ -37,21 +39,17 @@ mod piles;
 use answers::answer;
 use book::book::Book;
 use command::Command;
-use std::error::AnyError;
-use std::io::BufReadMethods;
-use std::io::BufReader;
-use std::io::BufWriter;
-use std::io::Write;
+use std::io::{BufRead, BufReader, BufWriter, Write};
 
-fn main(rt: LibcRuntime) -> Result<(), AnyError> {
-    rt.report(run(&rt))
+fn main(rt: HostRuntime) -> anyhow::Result<()> {
+    run(&rt)
 }
 
-fn run(rt: &LibcRuntime) -> Result<(), AnyError> {
+fn run(rt: &HostRuntime) -> anyhow::Result<()> {
     let heap = rt.alloc();
     let mut book = Book::new(heap)?;
-    let mut out = BufWriter::new(rt.stdout());
-    for line in BufReader::new(rt.stdin()).lines(heap) {
+    let mut out = BufWriter::new(heap, rt.stdout())?;
+    for line in BufReader::new(heap, rt.stdin())?.lines(heap) {
         let line = line?;
         let command = Command::read(heap, line.as_str())?;
         answer(heap, &mut book, command, &mut out)?;

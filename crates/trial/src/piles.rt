@@ -1,23 +1,14 @@
 use crate::answers::show_refusal;
-use crate::command::Layer;
-use crate::command::PathScript;
-use crate::figures::CellTableShown;
-use crate::figures::Shown;
-use crate::figures::show_at;
+use crate::command::{Layer, PathScript};
+use crate::figures::{Shown, show_at};
 use cells::table::CellTable;
-use count::long_count;
-use count::totals;
+use count::{long_count, totals};
 use plan::Plan;
-use plan::lockout::LockedPlace;
-use plan::lockout::Lockout;
-use plan::lockout::LockoutPlan;
+use plan::lockout::{LockedPlace, Lockout};
 use plan::mirror::Mirror;
-use plan::mirror::MirrorPlan;
 use plan::path_list::PathList;
-use plan::path_list::PathListPlan;
 use rules::refusal::Refusal;
 use std::alloc::Global;
-use std::error::AnyError;
 use std::io;
 use std::io::Write;
 
@@ -29,7 +20,7 @@ enum LaidLayer {
 }
 
 // Shows the counts of the pile over a path list, or why the list is refused.
-pub fn show_paths<W: Write>(heap: Global, script: PathScript, out: &mut W) -> Result<(), AnyError> {
+pub fn show_paths<W: Write>(heap: Global, script: PathScript, out: &mut W) -> anyhow::Result<()> {
     let PathScript {
         numbers,
         paths,
@@ -44,7 +35,7 @@ pub fn show_plan<P: Plan + Drop, W: Write>(
     made: Result<P, Refusal>,
     layers: &[Layer],
     out: &mut W,
-) -> Result<(), AnyError> {
+) -> anyhow::Result<()> {
     match made {
         Ok(plan) => {
             let laid = lay(heap, layers, out)?;
@@ -56,7 +47,7 @@ pub fn show_plan<P: Plan + Drop, W: Write>(
 }
 
 // The layers that are not refused; shows the refusals of the others.
-fn lay<W: Write>(heap: Global, layers: &[Layer], out: &mut W) -> Result<Vec<LaidLayer>, AnyError> {
+fn lay<W: Write>(heap: Global, layers: &[Layer], out: &mut W) -> anyhow::Result<Vec<LaidLayer>> {
     let mut laid = Vec::new(heap);
     for layer in layers {
         match layer {

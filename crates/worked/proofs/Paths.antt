@@ -1,43 +1,34 @@
 -- The example's path list is not refused.
-use mathlib.Core.Path.{_≡_, refl}
-use mathlib.Core.Bool.{true}
-use mathlib.Core.Logic.{⊎-elim}
-use mathlib.Core.List.{List}
-use Prim.Native.Nat.{ℕ, zero, suc, _^_, _≤_, _<_}
-use native.Mathlib.Omega.{arith}
-use lib.Dec.{lit<, lit≤}
-use lib.ListN.{getD}
-use Rattle·std.specs.Options.{isSome}
-use Rattle·std.specs.declared.option.Option.the-variants.{None}
-use Rattle·std.proofs.shelf.Tests.{true≢false, cases-lt, both-ways}
-use Rattle·rules.specs.Rules.{Allowed}
-use Rattle·place_set.specs.declared.PlaceSet.{PlaceSet}
-use Rattle·place_set.specs.Sets.{members}
-use Rattle·plan.specs.Paths.{type-at, covers, path-list-rules}
-use Rattle·place_set.proofs.Masks.{bit-above}
-use Rattle·plan.proofs.Paths.{covers-at}
-use Rattle·worked·specs.Worked.{example-types, example-paths}
-use Rattle·worked·proofs.Zeros.{zeros}
-use Rattle·worked·proofs.Deciding.{some-not-none}
+use Rattle.std.proofs.Common.{◌≡◌, ℕ, zero, suc, ◌^◌, ◌<◌, ◌≤◌, true, List, get_or, is_some, None, refl, ⊎_elim, arith, lit<, lit≤}
+use Rattle.std.proofs.lemmas.Bool.{true≢false, cases_lt, both_ways}
+use Rattle.rules.specs.Rules.{Allowed}
+use Rattle.place_set.specs.declared.PlaceSet.{PlaceSet}
+use Rattle.place_set.specs.Sets.{members}
+use Rattle.plan.specs.Paths.{type_at, covers, path_list_rules}
+use Rattle.place_set.proofs.Masks.{bit_above}
+use Rattle.plan.specs.PathsLemmas.{covers_at}
+use Rattle.worked.specs.Worked.{example_types, example_paths}
+use Rattle.worked.proofs.Zeros.{zeros}
+use Rattle.worked.proofs.Deciding.{some_not_none}
 
-types-known : (i : ℕ) → getD example-types i 0 ≤ 3
-types-known zero = lit≤ tt
-types-known (suc zero) = lit≤ tt
-types-known (suc (suc zero)) = lit≤ tt
-types-known (suc (suc (suc i))) = omega (arith, zeros 13 i)
+types_known : (i : ℕ) → get_or example_types i 0 ≤ 3
+types_known zero = lit≤ tt
+types_known (suc zero) = lit≤ tt
+types_known (suc (suc zero)) = lit≤ tt
+types_known (suc (suc (suc i))) = omega (arith, zeros 13 i)
 
 -- a path whose places all have types names no empty one
-filled : (numbers : List ℕ) (path : PlaceSet) → path .mask < 2 ^ 16 → covers (λ i. isSome (type-at numbers i)) path ≡ true
-    → (i : ℕ) → members path i ≡ true → type-at numbers i ≡ None → ⊥
+filled : (numbers : List ℕ) (path : PlaceSet) → path.mask < 2 ^ 16 → covers (λ i. is_some (type_at numbers i)) path ≡ true
+    → (i : ℕ) → members path i ≡ true → type_at numbers i ≡ None → ⊥
 filled numbers path small covered i on =
-    ⊎-elim
-    (λ lt. some-not-none (type-at numbers i) (covers-at path (λ k. isSome (type-at numbers k)) i covered lt on))
-    (λ high none. both-ways (members path i) (bit-above 16 (path .mask) i small high) on)
-    (cases-lt i 16)
+    ⊎_elim
+    (λ lt. some_not_none (type_at numbers i) (covers_at path (λ k. is_some (type_at numbers k)) i covered lt on))
+    (λ high none. both_ways (members path i) (bit_above 16 path.mask i small high) on)
+    (cases_lt i 16)
 
-pub paths-allowed : Allowed (path-list-rules example-types example-paths)
-paths-allowed = (
-  λ found. omega (arith, found .2, types-known (found .0)),
+pub paths_allowed : Allowed (path_list_rules example_types example_paths)
+paths_allowed = (
+  λ found. omega (arith, found.2, types_known found.0),
   (
     λ none. omega (arith, none),
     (
@@ -45,10 +36,10 @@ paths-allowed = (
       (
         λ empty. true≢false (empty 0),
         (
-          λ found. filled example-types (record { mask = 3 }) (lit< tt) refl (found .0) (found .1) (found .2),
+          λ found. filled example_types (record { mask = 3 }) (lit< tt) refl found.0 found.1 found.2,
           (
             λ empty. true≢false (empty 2),
-            (λ found. filled example-types (record { mask = 4 }) (lit< tt) refl (found .0) (found .1) (found .2), tt),
+            (λ found. filled example_types (record { mask = 4 }) (lit< tt) refl found.0 found.1 found.2, tt),
           ),
         ),
       ),

@@ -1,8 +1,10 @@
-ghost use Rattle·worked·specs.Worked.{«Worked-examples»};
+#![tactic(auto)]
+
+ghost use Rattle.worked.specs.Worked.{WorkedExamples};
 
 // The worked examples of the rules hold by the definitions.
 pub fn worked_examples_stand() -> u8
-    ensures { λ _. ⌜ «Worked-examples» ⌝ }
+    ensures { WorkedExamples }
 {
     0
 }

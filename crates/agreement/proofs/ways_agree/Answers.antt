@@ -1,5 +1,5 @@
-use Rattle·agreement·proofs.Agreement.{ways-agree}
-use Rattle·agreement·proofs.ways_agree.Needs as need
+use Rattle.agreement.proofs.Agreement.{ways_agree_lem}
+use Rattle.agreement.proofs.ways_agree.Goals as goal
 
-pub returns : need.returns
-returns c = ways-agree
+pub returns : goal.returns
+returns c = ways_agree_lem

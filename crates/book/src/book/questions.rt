@@ -1,9 +1,8 @@
-ghost use mathlib.Core.Path.{_≡_};
-ghost use Prim.Native.Nat.{ℕ, suc};
-ghost use Rattle·std.specs.Of.Vec.{vec-items};
-ghost use Rattle·rules.specs.History.{History, given, free, lines-of};
-ghost use Rattle·rules.specs.Ruled.{blamed};
-ghost use Rattle·book·specs.Keeps.{Keeps, Seeks, Asks};
+ghost use Rattle.std.specs.Prelude.{◌≡◌, ℕ, suc};
+ghost use Rattle.rules.specs.History.{History, given, free, lines_of};
+ghost use Rattle.rules.specs.Ruled.{blamed};
+ghost use Rattle.book.specs.Keeps.{Keeps, Seeks, Asks};
+
 use super::Book;
 use rules::change::Change;
 use rules::line::Line;
@@ -13,7 +12,7 @@ use rules::refusal::Refusal;
 impl Book {
     // What stands under the number, and whether it is free.
     pub fn question(&self, number: PartNumber) -> Result<Line, Refusal>
-        ensures { λ r. ⌜ Asks (number .value) (now (self .entry)) r ⌝ }
+        ensures { Asks number.value self.now result }
     {
         let place = self.seek(number)?;
         Ok(self.table.at(place))
@@ -21,21 +20,21 @@ impl Book {
 
     // The standing lines, in rising number.
     pub fn lines(&self) -> &[Line]
-        ensures { λ r. ⌜ ((h : History) → Keeps h (now (self .entry)) → now r ≡ lines-of h) ⌝ }
+        ensures { (h : History) → Keeps h self.now → result.now ≡ lines_of h }
     {
         self.table.lines.as_slice()
     }
 
     // The last number given, which is how many were given.
     pub fn last_number(&self) -> u32
-        ensures { λ r. ⌜ ((h : History) → Keeps h (now (self .entry)) → r ≡ given h) ⌝ }
+        ensures { (h : History) → Keeps h self.now → result ≡ given h }
     {
         self.last
     }
 
     // The number that the next line gets, while there is one.
     pub fn next_number(&self) -> u32
-        ensures { λ r. ⌜ ((h : History) → Keeps h (now (self .entry)) → r ≡ suc (given h)) ⌝ }
+        ensures { (h : History) → Keeps h self.now → result ≡ suc (given h) }
     {
         let last = self.last_number();
         last + 1
@@ -44,7 +43,7 @@ impl Book {
     // The part number that a refusal of the change is about: of a joining the first of the two that
     // may not be used, or the second.
     pub fn blamed(&self, change: Change) -> u32
-        ensures { λ r. ⌜ ((h : History) → Keeps h (now (self .entry)) → r ≡ blamed h change) ⌝ }
+        ensures { (h : History) → Keeps h self.now → result ≡ blamed h change }
     {
         match change {
             Change::Issue(_) => 0,
@@ -55,7 +54,7 @@ impl Book {
 
     // Whether the line with the number stands and is free.
     fn is_free(&self, number: PartNumber) -> bool
-        ensures { λ r. ⌜ ((h : History) → Keeps h (now (self .entry)) → r ≡ free h (number .value)) ⌝ }
+        ensures { (h : History) → Keeps h self.now → result ≡ free h number.value }
     {
         match self.question(number) {
             Ok(line) => line.is_free(),
@@ -65,7 +64,7 @@ impl Book {
 
     // The place of the standing line with the number.
     pub fn seek(&self, number: PartNumber) -> Result<usize, Refusal>
-        ensures { λ r. ⌜ Seeks (number .value) (now (self .entry)) r ⌝ }
+        ensures { Seeks number.value self.now result }
     {
         if number.get() == 0 || number.get() > self.last {
             return Err(Refusal::NeverGiven);

@@ -1,9 +1,8 @@
 mod restoring;
 
-ghost use mathlib.Core.Path.{_≡_};
-ghost use Prim.Native.Nat.{ℕ, _≤_};
-ghost use lib.ListN.{length, take};
-ghost use Rattle·book·specs.Kept.{Kept};
+ghost use Rattle.std.specs.Prelude.{◌≡◌, ℕ, ◌≤◌, length, take};
+ghost use Rattle.book.specs.Kept.{Kept};
+
 use rules::line::Line;
 
 // What a book held at some moment.

@@ -1,11 +1,8 @@
-ghost use mathlib.Core.Path.{_≡_};
-ghost use mathlib.Core.List.{[], _∷_, _++_};
-ghost use Prim.Native.Nat.{_<_};
-ghost use lib.ListN.{length};
-ghost use Rattle·place_set.specs.Sets.{members};
-ghost use Rattle·line_plan·specs.Items.{listed, types-of, state-of};
-use super::ItemList;
-use super::TypedItem;
+ghost use Rattle.std.specs.Prelude.{◌≡◌, ◌<◌, [], ◌∷◌, ◌++◌, length};
+ghost use Rattle.place_set.specs.Sets.{members};
+ghost use Rattle.line_plan.specs.Items.{listed, types_of, state_of};
+
+use super::{ItemList, TypedItem};
 use place_set::PlaceSet;
 use rules::item_type::ItemType;
 use rules::part_number::PartNumber;
@@ -13,7 +10,7 @@ use rules::part_number::PartNumber;
 impl ItemList {
     // A list without items.
     pub fn empty() -> ItemList
-        ensures { λ r. ⌜ listed r ≡ [] ⌝ }
+        ensures { listed result ≡ [] }
     {
         let blank = TypedItem {
             number: PartNumber::new(0),
@@ -27,8 +24,8 @@ impl ItemList {
 
     // Puts an item at the first place that has none.
     pub fn add(&mut self, item: TypedItem)
-        requires { ⌜ length (listed (now self)) < 16 ⌝ }
-        ensures { λ _. ⌜ listed (now (self .exit)) ≡ listed (now (self .entry)) ++ item ∷ [] ⌝ }
+        requires { length (listed self.old) < 16 }
+        ensures { listed self.new ≡ listed self.old ++ item ∷ [] }
     {
         self.items[self.count] = item;
         self.count += 1;
@@ -36,7 +33,7 @@ impl ItemList {
 
     // The type of the item at the place, if there is one.
     pub fn item_type(&self, place: u8) -> Option<ItemType>
-        ensures { λ r. ⌜ r ≡ types-of (listed (now (self .entry))) place ⌝ }
+        ensures { result ≡ types_of (listed self.now) place }
     {
         let place = place as usize;
         if place < self.count {
@@ -49,7 +46,7 @@ impl ItemList {
     // Whether the item with the number works, where each item of the list is as the set has its
     // place; an item that is not in the list does not.
     pub fn works(&self, number: PartNumber, state: PlaceSet) -> bool
-        ensures { λ r. ⌜ r ≡ state-of (listed (now (self .entry))) (members state) (number .value) ⌝ }
+        ensures { result ≡ state_of (listed self.now) (members state) number.value }
     {
         for place in 0..self.count {
             if self.items[place].number.get() == number.get() {

@@ -1,15 +1,14 @@
-ghost use mathlib.Core.Path.{_≡_};
-ghost use lib.ListN.{length};
-ghost use Rattle·std.specs.Of.Vec.{vec-items};
-ghost use Rattle·rules.specs.Rules.{Decided};
-ghost use Rattle·plan·specs.Paths.{«type-rules», «path-rules», «each-path», «path-list-rules»};
+ghost use Rattle.std.specs.Prelude.{◌≡◌, length};
+ghost use Rattle.rules.specs.Rules.{Decided};
+ghost use Rattle.plan.specs.Paths.{type_rules, path_rules, each_path, path_list_rules};
+
 use super::PathList;
 use place_set::PlaceSet;
 use rules::item_type::ItemType;
 use rules::refusal::Refusal;
 
 fn check_types(numbers: &[u8; 16]) -> Result<(), Refusal>
-    ensures { λ r. ⌜ Decided («type-rules» (now (numbers .entry))) (λ _. Unit {0}) r ⌝ }
+    ensures { Decided (type_rules numbers.now) (λ _. Unit {0}) result }
 {
     for number in numbers {
         if *number > 3 {
@@ -20,7 +19,7 @@ fn check_types(numbers: &[u8; 16]) -> Result<(), Refusal>
 }
 
 fn check_path(numbers: &[u8; 16], path: PlaceSet) -> Result<(), Refusal>
-    ensures { λ r. ⌜ Decided («path-rules» (now (numbers .entry)) path) (λ _. Unit {0}) r ⌝ }
+    ensures { Decided (path_rules numbers.now path) (λ _. Unit {0}) result }
 {
     if path.is_empty() {
         return Err(Refusal::EmptyPath);
@@ -37,7 +36,7 @@ fn check_path(numbers: &[u8; 16], path: PlaceSet) -> Result<(), Refusal>
 }
 
 fn check_paths(numbers: &[u8; 16], paths: &[PlaceSet]) -> Result<(), Refusal>
-    ensures { λ r. ⌜ Decided («each-path» (now (numbers .entry)) (now (paths .entry))) (λ _. Unit {0}) r ⌝ }
+    ensures { Decided (each_path numbers.now paths.now) (λ _. Unit {0}) result }
 {
     for path in paths {
         check_path(numbers, *path)?;
@@ -48,7 +47,7 @@ fn check_paths(numbers: &[u8; 16], paths: &[PlaceSet]) -> Result<(), Refusal>
 impl PathList {
     // A list of paths over 16 places, each with the number of its type, or 0 if it is empty.
     pub fn new(numbers: [u8; 16], paths: Vec<PlaceSet>) -> Result<PathList, Refusal>
-        ensures { λ r. ⌜ Decided («path-list-rules» numbers (vec-items paths)) (λ p. (p .numbers ≡ numbers) × (vec-items (p .paths) ≡ vec-items paths)) r ⌝ }
+        ensures { Decided (path_list_rules numbers paths.items) (λ p. (p.numbers ≡ numbers) × (p.paths.items ≡ paths.items)) result }
     {
         check_types(&numbers)?;
         if paths.is_empty() {

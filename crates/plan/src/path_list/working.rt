@@ -1,7 +1,8 @@
-ghost use mathlib.Core.Path.{_≡_};
-ghost use Rattle·std.specs.Of.Vec.{vec-items};
-ghost use Rattle·place_set.specs.Sets.{members};
-ghost use Rattle·plan·specs.Paths.{«some-path», «path-list»};
+ghost use Rattle.std.specs.Prelude.{◌≡◌};
+ghost use Rattle.place_set.specs.Sets.{members};
+ghost use Rattle.plan.specs.Paths.{some_path, plan_of_paths};
+ghost use Rattle.plan.specs.PathsLemmas.{path_list_lawful};
+
 use super::PathList;
 use crate::Plan;
 use place_set::PlaceSet;
@@ -9,7 +10,7 @@ use rules::item_type::ItemType;
 
 // Whether some path has all its places working.
 fn some_path_works(paths: &[PlaceSet], state: PlaceSet) -> bool
-    ensures { λ r. ⌜ r ≡ «some-path» (now (paths .entry)) (members state) ⌝ }
+    ensures { result ≡ some_path paths.now (members state) }
 {
     let mut found = false;
     'paths: for path in paths {
@@ -24,8 +25,10 @@ fn some_path_works(paths: &[PlaceSet], state: PlaceSet) -> bool
     found
 }
 
-pub impl Plan for PathList as PathListPlan {
-    ghost meaning = { λ p. «path-list» (p .numbers) (vec-items (p .paths)) };
+impl Plan for PathList {
+    ghost meaning = { λ p. plan_of_paths p.numbers p.paths.items };
+
+    ghost lawful = { λ p. path_list_lawful p.numbers p.paths.items p.long p.filled };
 
     fn item_type(&self, place: u8) -> Option<ItemType> {
         if place > 15 {

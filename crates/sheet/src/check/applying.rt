@@ -1,26 +1,22 @@
-ghost use mathlib.Core.Path.{_≡_};
-ghost use mathlib.Core.List.{_∷_};
-ghost use Prim.Native.Nat.{_^_, _<_};
-ghost use lib.ListN.{length};
-ghost use Rattle·std.specs.Results.{Cases};
-ghost use Rattle·rules.specs.History.{History};
-ghost use Rattle·book.specs.Keeps.{Keeps};
-ghost use Rattle·text.specs.Texts.{lines-of};
-ghost use Rattle·text.specs.Cursors.{line-seen, Line-fits};
-ghost use Rattle·sheet·specs.Checks.{sheet-seen};
-ghost use Rattle·sheet·specs.Applying.{Applies, Takes-line, Takes-lines};
+ghost use Rattle.std.specs.Prelude.{◌≡◌, ◌^◌, ◌<◌, ◌∷◌, length, MatchResult};
+ghost use Rattle.rules.specs.History.{History};
+ghost use Rattle.book.specs.Keeps.{Keeps};
+ghost use Rattle.text.specs.Texts.{lines_of};
+ghost use Rattle.text.specs.Cursors.{line_seen, LineFits};
+ghost use Rattle.sheet.specs.Checks.{sheet_seen};
+ghost use Rattle.sheet.specs.Applying.{Applies, TakesLine, TakesLines};
+
 use super::CheckedSheet;
 use crate::fault::Fault;
 use book::book::Book;
 use rules::refusal::Refusal;
-use text::lines::Lines;
-use text::lines::SheetLine;
+use text::lines::{Lines, SheetLine};
 
 impl<'a> CheckedSheet<'a> {
     // Asks the book for the changes of the lines in turn, and answers how many they are. The first
     // refusal ends the sheet, with the book as before it.
     pub fn apply(self, book: &mut Book) -> Result<u32, Fault>
-        ensures { λ r. ⌜ Applies (sheet-seen (self .entry)) (now (book .entry)) r (now (book .exit)) ⌝ }
+        ensures { Applies (sheet_seen self.entry) book.old result book.new }
     {
         let CheckedSheet { above, count, next } = self;
         if next != book.next_number() {
@@ -44,8 +40,8 @@ impl<'a> CheckedSheet<'a> {
 
 // Takes the lines in turn, up to the first fault.
 fn take_lines(book: &mut Book, above: &[u8]) -> Result<(), Fault>
-    requires { ⌜ length (now above) < 2 ^ 64 ⌝ }
-    ensures { λ r. ⌜ Takes-lines (lines-of (now (above .entry))) (now (book .entry)) r (now (book .exit)) ⌝ }
+    requires { length above.now < 2 ^ 64 }
+    ensures { TakesLines (lines_of above.now) book.old result book.new }
 {
     let mut lines = Lines::new(above);
     while let Some(line) = lines.next() {
@@ -58,8 +54,8 @@ fn take_lines(book: &mut Book, above: &[u8]) -> Result<(), Fault>
 
 // Asks the book for the change of a line.
 fn take_line(book: &mut Book, line: SheetLine<'_>) -> Result<(), Fault>
-    requires { ⌜ Line-fits line ⌝ }
-    ensures { λ r. ⌜ Takes-line (line-seen (line .entry)) (now (book .entry)) r (now (book .exit)) ⌝ }
+    requires { LineFits line }
+    ensures { TakesLine (line_seen line.entry) book.old result book.new }
 {
     let number = line.number;
     let place = line.place;

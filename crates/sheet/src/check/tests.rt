@@ -1,7 +1,4 @@
 use super::*;
-use crate::fault::FaultDebug;
-use crate::fault::FaultPartialEq;
-use std::test::*;
 
 // How many bytes stand above the closing line, its count and its next number.
 fn checked(text: &[u8]) -> Result<(usize, u32, u32), Fault> {
@@ -16,19 +13,19 @@ fn refused(refusal: Refusal, line: usize, place: usize) -> Result<(usize, u32, u
 }
 
 #[test]
-fn closing_lines() -> Result<(), Fail> {
-    check_eq(checked(b"E 0 1\n"), Ok((0, 0, 1)))?;
-    check_eq(checked(b"I 1\nI 2\nE 2 1\n"), Ok((8, 2, 1)))?;
-    check_eq(checked(b"\nE 9 9\nE 2 99999\n"), Ok((7, 2, 99_999)))?;
-    check_eq(
+fn closing_lines(rt: HostRuntime) {
+    assert_eq!(rt; checked(b"E 0 1\n"), Ok((0, 0, 1)));
+    assert_eq!(rt; checked(b"I 1\nI 2\nE 2 1\n"), Ok((8, 2, 1)));
+    assert_eq!(rt; checked(b"\nE 9 9\nE 2 99999\n"), Ok((7, 2, 99_999)));
+    assert_eq!(rt;
         checked(b"I 1\nE 2 1\n"),
-        refused(Refusal::WrongLineCount, 2, 4),
-    )?;
-    check_eq(checked(b"E 1 1\n"), refused(Refusal::WrongLineCount, 1, 0))
+        refused(Refusal::WrongLineCount, 2, 4)
+    );
+    assert_eq!(rt; checked(b"E 1 1\n"), refused(Refusal::WrongLineCount, 1, 0));
 }
 
 #[test]
-fn no_closing_lines() -> Result<(), Fail> {
+fn no_closing_lines(rt: HostRuntime) {
     let texts: [&[u8]; 11] = [
         b"",
         b"\n",
@@ -43,25 +40,24 @@ fn no_closing_lines() -> Result<(), Fail> {
         b"\x00\xff",
     ];
     for text in texts {
-        check_eq(
+        assert_eq!(rt;
             checked(text),
-            refused(Refusal::NoClosingLine, 0, text.len()),
-        )?;
+            refused(Refusal::NoClosingLine, 0, text.len())
+        );
     }
-    Ok(())
 }
 
 // Empty lines and a closing line, in 1,023, 1,024 and 1,025 bytes.
 #[test]
-fn lengths() -> Result<(), Fail> {
+fn lengths(rt: HostRuntime) {
     let mut text = [b'\n'; 1025];
     text[1014..1023].copy_from_slice(b"E 1014 1\n");
-    check_eq(checked(&text[0..1023]), Ok((1014, 1014, 1)))?;
+    assert_eq!(rt; checked(&text[0..1023]), Ok((1014, 1014, 1)));
     text[1014..1024].copy_from_slice(b"\nE 1015 1\n");
-    check_eq(checked(&text[0..1024]), Ok((1015, 1015, 1)))?;
+    assert_eq!(rt; checked(&text[0..1024]), Ok((1015, 1015, 1)));
     text[1015..1025].copy_from_slice(b"\nE 1016 1\n");
-    check_eq(
+    assert_eq!(rt;
         checked(&text[0..1025]),
-        refused(Refusal::SheetTooLong, 0, 0),
-    )
+        refused(Refusal::SheetTooLong, 0, 0)
+    );
 }

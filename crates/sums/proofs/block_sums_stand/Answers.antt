@@ -1,5 +1,5 @@
-use Rattle·sums·proofs.Blocks.{block-sums-stand}
-use Rattle·sums·proofs.block_sums_stand.Needs as need
+use Rattle.sums.proofs.Blocks.{block_sums_stand_lem}
+use Rattle.sums.proofs.block_sums_stand.Goals as goal
 
-pub returns : need.returns
-returns g c m laws = block-sums-stand laws
+pub returns : goal.returns
+returns g c m laws = block_sums_stand_lem laws

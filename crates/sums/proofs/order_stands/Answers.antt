@@ -1,5 +1,5 @@
-use Rattle·sums·proofs.Order.{order-stands}
-use Rattle·sums·proofs.order_stands.Needs as need
+use Rattle.sums.proofs.Order.{order_stands_lem}
+use Rattle.sums.proofs.order_stands.Goals as goal
 
-pub returns : need.returns
-returns g c m laws = order-stands laws
+pub returns : goal.returns
+returns g c m laws = order_stands_lem laws

@@ -1,5 +1,5 @@
-use Rattle·sums·proofs.Places.{places-stand}
-use Rattle·sums·proofs.places_stand.Needs as need
+use Rattle.sums.proofs.Places.{places_stand_lem}
+use Rattle.sums.proofs.places_stand.Goals as goal
 
-pub returns : need.returns
-returns g c m laws = places-stand laws
+pub returns : goal.returns
+returns g c m laws = places_stand_lem laws

@@ -1,5 +1,5 @@
-use Rattle·sums·proofs.Rising.{rising-stands}
-use Rattle·sums·proofs.rising_stands.Needs as need
+use Rattle.sums.proofs.Rising.{rising_stands_lem}
+use Rattle.sums.proofs.rising_stands.Goals as goal
 
-pub returns : need.returns
-returns c = rising-stands
+pub returns : goal.returns
+returns c = rising_stands_lem

@@ -1,5 +1,5 @@
-use Rattle·sums·proofs.Forest.{trees-stand}
-use Rattle·sums·proofs.trees_stand.Needs as need
+use Rattle.sums.proofs.Forest.{trees_stand_lem}
+use Rattle.sums.proofs.trees_stand.Goals as goal
 
-pub returns : need.returns
-returns c = trees-stand
+pub returns : goal.returns
+returns c = trees_stand_lem

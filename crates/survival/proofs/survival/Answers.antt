@@ -1,36 +1,33 @@
-use mathlib.Core.Path.{sym, subst}
-use Prim.Native.Nat.{ℕ}
-use native.Mathlib.Omega.{arith}
-use lib.ListN.{getD}
-use Rattle·rules.specs.History.{standing}
-use Rattle·book.proofs.Steps.{few-held}
-use Rattle·survey.proofs.Places.{stands-at}
-use Rattle·survival·specs.Held.{fraction-of, Bounds-of}
-use Rattle·survival·proofs.Places.{found-at}
-use Rattle·survival·proofs.Answered.{some-there, survives}
-use Rattle·survival·proofs.survival.Needs as need
+use Rattle.std.proofs.Common.{ℕ, get_or, sym, subst, arith}
+use Rattle.rules.specs.History.{standing}
+use Rattle.book.proofs.Steps.{few_held}
+use Rattle.survey.proofs.Places.{stands_at}
+use Rattle.survival.specs.Held.{fraction_of, BoundsOf}
+use Rattle.survival.proofs.Places.{found_at}
+use Rattle.survival.proofs.Answered.{some_there, survives}
+use Rattle.survival.proofs.survival.Goals as goal
 
-pub offset-places-place : need.offset-places-place
-offset-places-place c = omega (arith, c .in-Continue-place .ensures tt .0, few-held (c .args .book .now))
+pub offset_bounds-places-place : goal.offset_bounds-places-place
+offset_bounds-places-place c = omega (arith, c.in_ok-place.ensures.0, few_held c.args.book.now)
 
-pub listed : need.listed
-listed c = omega (arith, c .in-Continue-place .ensures tt .0, few-held (c .args .book .now), c .all-bounds-places .ensures .long)
+pub listed : goal.listed
+listed c = omega (arith, c.in_ok-place.ensures.0, few_held c.args.book.now, c.all_bounds-places.ensures.long)
 
-pub index-places-place : need.index-places-place
-index-places-place c = omega (arith, c .in-Continue-place .ensures tt .0, few-held (c .args .book .now))
+pub bounds-places-place : goal.bounds-places-place
+bounds-places-place c = omega (arith, c.in_ok-place.ensures.0, few_held c.args.book.now)
 
-pub returns : need.returns
+pub returns : goal.returns
 returns c h k =
-    let n = c .args .number .value in
-    let f = c .in-Continue-fractions .fractions in
-    let i = c .in-Continue-place .place in
-    let places = c .all-bounds-places .result in
-    let a = c .in-Continue-place .ensures tt .1 h k .0 in
-    let s = c .in-Continue-fractions .ensures tt in
-    let on = some-there (standing h n) (a .1 .0) in
-    let d = c .index-places-place .result in (
-      (a .0, (a .1 .0, s .0)),
-      survives h (k .lawful) n on (c .args .shares) f (s .1) (getD places i d)
-          (subst (λ (j : ℕ). Bounds-of (fraction-of f) h n (getD places j d)) (sym (found-at h (c .args .book .now) k n i on (c .in-Continue-place .ensures tt .0)))
-          (c .all-bounds-places .ensures .held h k n on (stands-at h (k .lawful) n on .0) d)),
+    let n = c.args.number.value in
+    let f = c.in_ok-fractions.fractions in
+    let i = c.in_ok-place.place in
+    let places = c.all_bounds-places.result in
+    let a = (c.in_ok-place.ensures.1 h k).0 in
+    let s = c.in_ok-fractions.ensures in
+    let on = some_there (standing h n) a.1.0 in
+    let d = c.index-places-place.result in (
+      (a.0, (a.1.0, s.0)),
+      survives h k.lawful n on c.args.shares f s.1 (get_or places i d)
+          (subst (λ (j : ℕ). BoundsOf (fraction_of f) h n (get_or places j d)) (sym (found_at h c.args.book.now k n i on c.in_ok-place.ensures.0))
+          (c.all_bounds-places.ensures.held h k n on (stands_at h k.lawful n on).0 d)),
     )

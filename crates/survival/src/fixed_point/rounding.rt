@@ -1,13 +1,12 @@
-ghost use mathlib.Core.Path.{_≡_};
-ghost use Prim.Native.Nat.{_-_, _*_, _≤_};
-ghost use Rattle·survival·specs.LowHigh.{S, down, up};
-use super::FixedPoint;
-use super::ONE;
+ghost use Rattle.std.specs.Prelude.{◌≡◌, ◌-◌, ◌*◌, ◌≤◌};
+ghost use Rattle.survival.specs.LowHigh.{S, down, up};
+
+use super::{FixedPoint, ONE};
 
 impl FixedPoint {
     // 1 less the number.
     pub(crate) fn complement(self) -> FixedPoint
-        ensures { λ r. ⌜ r .units ≡ S - self .units ⌝ }
+        ensures { result.units ≡ S - self.units }
     {
         FixedPoint {
             units: ONE - self.units,
@@ -16,7 +15,7 @@ impl FixedPoint {
 
     // The product, rounded down.
     pub(crate) fn mul_floor(self, other: FixedPoint) -> FixedPoint
-        ensures { λ r. ⌜ r .units ≡ down (self .units * other .units) ⌝ }
+        ensures { result.units ≡ down (self.units * other.units) }
     {
         FixedPoint {
             units: (self.product(other) / u64::from(ONE)) as u32,
@@ -25,7 +24,7 @@ impl FixedPoint {
 
     // The product, rounded up.
     pub(crate) fn mul_ceil(self, other: FixedPoint) -> FixedPoint
-        ensures { λ r. ⌜ r .units ≡ up (self .units * other .units) ⌝ }
+        ensures { result.units ≡ up (self.units * other.units) }
     {
         FixedPoint {
             units: self.product(other).div_ceil(u64::from(ONE)) as u32,
@@ -34,8 +33,8 @@ impl FixedPoint {
 
     // The product of the units.
     fn product(self, other: FixedPoint) -> u64
-        ensures value { λ r. ⌜ r ≡ self .units * other .units ⌝ }
-        ensures small { λ r. ⌜ r ≤ S * S ⌝ }
+        ensures value { result ≡ self.units * other.units }
+        ensures small { result ≤ S * S }
     {
         u64::from(self.units) * u64::from(other.units)
     }

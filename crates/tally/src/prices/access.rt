@@ -1,5 +1,6 @@
-ghost use mathlib.Core.Path.{_≡_};
-ghost use Rattle·tally·specs.Pricing.{price-of, «Prices-ruled»};
+ghost use Rattle.std.specs.Prelude.{◌≡◌};
+ghost use Rattle.tally.specs.Pricing.{price_of, PricesRuled};
+
 use super::Prices;
 use rules::item_type::ItemType;
 use rules::refusal::Refusal;
@@ -9,7 +10,7 @@ const HIGHEST_PRICE: u32 = 1_000_000;
 impl Prices {
     // The prices of the types 1, 2 and 3, none of them above 1,000,000.
     pub fn new(one: u32, two: u32, three: u32) -> Result<Prices, Refusal>
-        ensures { λ r. ⌜ «Prices-ruled» one two three r ⌝ }
+        ensures { PricesRuled one two three result }
     {
         if one > HIGHEST_PRICE || two > HIGHEST_PRICE || three > HIGHEST_PRICE {
             return Err(Refusal::PriceTooHigh);
@@ -19,7 +20,7 @@ impl Prices {
 
     // The price of an item of the type.
     pub fn price(&self, item_type: ItemType) -> u32
-        ensures { λ r. ⌜ r ≡ price-of (now (self .entry)) «item_type» ⌝ }
+        ensures { result ≡ price_of self.now item_type }
     {
         match item_type {
             ItemType::One => self.one,

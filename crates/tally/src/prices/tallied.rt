@@ -1,13 +1,17 @@
-ghost use Rattle·tally·specs.Pricing.{prices};
+ghost use Rattle.tally.specs.Pricing.{prices};
+ghost use Rattle.tally.specs.Capped.{prices_lawful};
+
 use super::Prices;
 use crate::Tally;
 use crate::loss::Loss;
 use rules::item_type::ItemType;
 
-pub impl Tally for Prices as PricesTally {
+impl Tally for Prices {
     type Figure = Loss;
 
     ghost meaning = { prices };
+
+    ghost lawful = { prices_lawful };
 
     fn none(&self) -> Loss {
         Loss::new(u32::MAX)

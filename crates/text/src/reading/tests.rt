@@ -1,7 +1,4 @@
 use super::*;
-use rules::change::ChangeDebug;
-use rules::change::ChangePartialEq;
-use std::test::*;
 
 fn change(bytes: &[u8]) -> Option<Change> {
     if bytes.len() > 99 {
@@ -20,19 +17,19 @@ fn join(kind: Kind, a: u32, b: u32) -> Option<Change> {
 }
 
 #[test]
-fn changes() -> Result<(), Fail> {
-    check_eq(change(b"I 1"), Some(Change::Issue(1)))?;
-    check_eq(change(b"I 0"), Some(Change::Issue(0)))?;
-    check_eq(
+fn changes(rt: HostRuntime) {
+    assert_eq!(rt; change(b"I 1"), Some(Change::Issue(1)));
+    assert_eq!(rt; change(b"I 0"), Some(Change::Issue(0)));
+    assert_eq!(rt;
         change(b"W 99999"),
-        Some(Change::Withdraw(PartNumber::new(99_999))),
-    )?;
-    check_eq(change(b"S 1 20"), join(Kind::Series, 1, 20))?;
-    check_eq(change(b"P 10 2"), join(Kind::Parallel, 10, 2))
+        Some(Change::Withdraw(PartNumber::new(99_999)))
+    );
+    assert_eq!(rt; change(b"S 1 20"), join(Kind::Series, 1, 20));
+    assert_eq!(rt; change(b"P 10 2"), join(Kind::Parallel, 10, 2));
 }
 
 #[test]
-fn unreadable() -> Result<(), Fail> {
+fn unreadable(rt: HostRuntime) {
     let lines: [&[u8]; 20] = [
         b"",
         b"I",
@@ -56,7 +53,6 @@ fn unreadable() -> Result<(), Fail> {
         b"I \xff",
     ];
     for line in lines {
-        check_eq(change(line), None)?;
+        assert_eq!(rt; change(line), None);
     }
-    Ok(())
 }

@@ -1,5 +1,6 @@
-ghost use Rattle·rules.specs.declared.change.Change.the-variants.{Issue as Issuing, Join as Joining};
-ghost use Rattle·book·specs.Keeps.{Can-issue, Can-join, Locates};
+ghost use Rattle.rules.specs.declared.change.Change.TheVariants.{Issue as Issuing, Join as Joining};
+ghost use Rattle.book.specs.Keeps.{CanIssue, CanJoin, Locates};
+
 use crate::book::Book;
 use rules::item_type::ItemType;
 use rules::part_number::PartNumber;
@@ -14,7 +15,7 @@ const LAST_NUMBER: u32 = 9999;
 impl Book {
     // The type of which an item may be issued.
     pub(super) fn issuable(&self, item_type: u32) -> Result<ItemType, Refusal>
-        ensures { λ r. ⌜ Can-issue «item_type» (now (self .entry)) r ⌝ }
+        ensures { CanIssue item_type self.now result }
     {
         let Some(known) = ItemType::from_number(item_type) else {
             return Err(Refusal::UnknownType);
@@ -34,7 +35,7 @@ impl Book {
 
     // The places of two lines that may be joined.
     pub(super) fn joinable(&self, a: PartNumber, b: PartNumber) -> Result<(usize, usize), Refusal>
-        ensures { λ r. ⌜ Can-join a b (now (self .entry)) r ⌝ }
+        ensures { CanJoin a b self.now result }
     {
         let place_a = self.locate(a)?;
         let place_b = self.locate(b)?;
@@ -49,7 +50,7 @@ impl Book {
 
     // The place of the free line with the number.
     pub(super) fn locate(&self, number: PartNumber) -> Result<usize, Refusal>
-        ensures { λ r. ⌜ Locates (number .value) (now (self .entry)) r ⌝ }
+        ensures { Locates number.value self.now result }
     {
         let place = self.seek(number)?;
         if self.table.at(place).built_in {

@@ -1,23 +1,21 @@
-ghost use mathlib.Core.Path.{_≡_};
-ghost use Rattle·std.specs.Of.Vec.{vec-items};
-ghost use Rattle·std.specs.declared.option.Option.the-variants.{Some};
-ghost use Rattle·rules.specs.declared.change.Change.the-variants.{Issue as Issuing, Join as Joining, Withdraw as Withdrawing};
-ghost use Rattle·rules.specs.Types.{type-numbered};
-ghost use Rattle·rules.specs.Tables.{At};
-ghost use Rattle·book·specs.Keeps.{Can, Gives, Found};
+ghost use Rattle.std.specs.Prelude.{◌≡◌, Some};
+ghost use Rattle.rules.specs.declared.change.Change.TheVariants.{Issue as Issuing, Join as Joining, Withdraw as Withdrawing};
+ghost use Rattle.rules.specs.Types.{type_numbered};
+ghost use Rattle.rules.specs.Tables.{At};
+ghost use Rattle.book.specs.Keeps.{Can, Gives, Found};
+
 use crate::book::Book;
 use rules::item_type::ItemType;
 use rules::kind::Kind;
-use rules::line::Line;
-use rules::line::Part;
+use rules::line::{Line, Part};
 use rules::part_number::PartNumber;
 
 impl Book {
     // Adds an item of the type that was asked for by this number.
     pub(super) fn add_item(&mut self, asked: u32, item_type: ItemType) -> PartNumber
-        requires known { ⌜ type-numbered asked ≡ Some «item_type» ⌝ }
-        requires allowed { ⌜ Can (Issuing asked) (now self) ⌝ }
-        ensures { λ r. ⌜ Gives (Issuing asked) (now (self .entry)) r (now (self .exit)) ⌝ }
+        requires known { type_numbered asked ≡ Some item_type }
+        requires allowed { Can (Issuing asked) self.old }
+        ensures { Gives (Issuing asked) self.old result self.new }
     {
         let next = self.last + 1;
         let number = PartNumber::new(next);
@@ -39,10 +37,10 @@ impl Book {
         place_a: usize,
         place_b: usize,
     ) -> PartNumber
-        requires first { ⌜ At (vec-items (now self .table .lines)) (a .value) «place_a» ⌝ }
-        requires second { ⌜ At (vec-items (now self .table .lines)) (b .value) «place_b» ⌝ }
-        requires allowed { ⌜ Can (Joining kind a b) (now self) ⌝ }
-        ensures { λ r. ⌜ Gives (Joining kind a b) (now (self .entry)) r (now (self .exit)) ⌝ }
+        requires first { At self.old.table.lines.items a.value place_a }
+        requires second { At self.old.table.lines.items b.value place_b }
+        requires allowed { Can (Joining kind a b) self.old }
+        ensures { Gives (Joining kind a b) self.old result self.new }
     {
         let next = self.last + 1;
         let number = PartNumber::new(next);
@@ -59,8 +57,8 @@ impl Book {
 
     // Takes out the free line with the number, which stands at the place.
     pub(super) fn take_out(&mut self, number: PartNumber, place: usize)
-        requires { ⌜ Found (number .value) (now self) place ⌝ }
-        ensures { λ _. ⌜ Gives (Withdrawing number) (now (self .entry)) number (now (self .exit)) ⌝ }
+        requires { Found number.value self.old place }
+        ensures { Gives (Withdrawing number) self.old number self.new }
     {
         let line = self.table.take_out(place);
         if let Part::Block(_, a, b) = line.part {

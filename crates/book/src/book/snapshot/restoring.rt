@@ -1,15 +1,15 @@
-ghost use Rattle·book·specs.Snapshots.{Shows};
+ghost use Rattle.book.specs.Snapshots.{Shows};
+
 use super::Snapshot;
 use crate::book::Book;
 use rules::item_type::ItemType;
-use rules::line::Line;
-use rules::line::Part;
+use rules::line::{Line, Part};
 use rules::part_number::PartNumber;
 
 impl Book {
     // What the book holds now.
     pub fn snapshot(&self) -> Snapshot
-        ensures { λ r. ⌜ Shows r (now (self .entry)) ⌝ }
+        ensures { Shows result self.now }
     {
         let blank = Line {
             number: PartNumber::new(0),
@@ -30,7 +30,7 @@ impl Book {
 
     // Puts back what the book held at the moment of the snapshot.
     pub fn restore(&mut self, snapshot: &Snapshot)
-        ensures { λ _. ⌜ Shows (now (snapshot .entry)) (now (self .exit)) ⌝ }
+        ensures { Shows snapshot.now self.new }
     {
         self.table.replace(&snapshot.lines, snapshot.count);
         self.last = snapshot.last;

@@ -1,5 +1,5 @@
-use Rattle·cells·proofs.Tables.{cell-of, same-cells}
-use Rattle·cells·proofs.theorems.tables_stand.Needs as need
+use Rattle.cells.proofs.Tables.{cell_of, same_cells}
+use Rattle.cells.proofs.theorems.tables_stand.Goals as goal
 
-pub returns : need.returns
-returns c = (cell-of, same-cells)
+pub returns : goal.returns
+returns c = (cell_of, same_cells)

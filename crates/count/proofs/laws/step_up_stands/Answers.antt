@@ -1,5 +1,5 @@
-use Rattle·count·proofs.Steps.{step-up}
-use Rattle·count·proofs.laws.step_up_stands.Needs as need
+use Rattle.count.proofs.Steps.{step_up}
+use Rattle.count.proofs.laws.step_up_stands.Goals as goal
 
-pub returns : need.returns
-returns g c p = step-up (g .P·Plan .meaning p) (g .P·Plan·met .lawful p)
+pub returns : goal.returns
+returns g c p = step_up (g.P.Plan.meaning p) (g.met.P.Plan.lawful p)

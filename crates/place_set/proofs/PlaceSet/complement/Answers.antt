@@ -1,6 +1,6 @@
-use native.Mathlib.Omega.{arith}
-use Rattle·place_set·proofs.Masks.{members-others}
-use Rattle·place_set·proofs.PlaceSet.complement.Needs as need
+use Rattle.std.proofs.Common.{arith}
+use Rattle.place_set.proofs.Masks.{members_others}
+use Rattle.place_set.proofs.PlaceSet.complement.Goals as goal
 
-pub returns : need.returns
-returns c = members-others (c .args .self .mask) (omega arith)
+pub returns : goal.returns
+returns c = members_others c.args.self.mask (omega arith)

@@ -1,6 +1,6 @@
-use native.Mathlib.Omega.{arith}
-use Rattle·place_set·proofs.Masks.{members-less}
-use Rattle·place_set·proofs.PlaceSet.difference.Needs as need
+use Rattle.std.proofs.Common.{arith}
+use Rattle.place_set.proofs.Masks.{members_less}
+use Rattle.place_set.proofs.PlaceSet.difference.Goals as goal
 
-pub returns : need.returns
-returns c = members-less (c .args .self .mask) (c .args .other .mask) (omega arith) (omega arith)
+pub returns : goal.returns
+returns c = members_less c.args.self.mask c.args.other.mask (omega arith) (omega arith)

@@ -1,5 +1,5 @@
-use Rattle·place_set·proofs.Masks.{members-and}
-use Rattle·place_set·proofs.PlaceSet.intersection.Needs as need
+use Rattle.place_set.proofs.Masks.{members_and}
+use Rattle.place_set.proofs.PlaceSet.intersection.Goals as goal
 
-pub returns : need.returns
-returns c = members-and (c .args .self .mask) (c .args .other .mask)
+pub returns : goal.returns
+returns c = members_and c.args.self.mask c.args.other.mask

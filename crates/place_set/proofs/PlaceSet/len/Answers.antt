@@ -1,8 +1,8 @@
-use native.Mathlib.Omega.{arith}
-use Rattle·place_set·specs.Sets.{size}
-use Rattle·place_set·proofs.Masks.{ones-count}
-use Rattle·place_set·proofs.PlaceSet.len.Needs as need
+use Rattle.std.proofs.Common.{arith}
+use Rattle.place_set.specs.Sets.{size}
+use Rattle.place_set.proofs.Masks.{ones_count}
+use Rattle.place_set.proofs.PlaceSet.len.Goals as goal
 
-pub returns : need.returns
+pub returns : goal.returns
 unfolding size
-returns c = ones-count 16 (c .args .self .mask) (omega arith)
+returns c = ones_count 16 c.args.self.mask (omega arith)

@@ -1,5 +1,5 @@
-use Rattle·place_set·proofs.Masks.{members-or}
-use Rattle·place_set·proofs.PlaceSet.union.Needs as need
+use Rattle.place_set.proofs.Masks.{members_or}
+use Rattle.place_set.proofs.PlaceSet.union.Goals as goal
 
-pub returns : need.returns
-returns c = members-or (c .args .self .mask) (c .args .other .mask)
+pub returns : goal.returns
+returns c = members_or c.args.self.mask c.args.other.mask

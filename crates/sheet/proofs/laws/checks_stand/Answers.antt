@@ -1,5 +1,5 @@
-use Rattle·sheet·proofs.Closings.{checks-ruled}
-use Rattle·sheet·proofs.laws.checks_stand.Needs as need
+use Rattle.sheet.proofs.Closings.{checks_ruled}
+use Rattle.sheet.proofs.laws.checks_stand.Goals as goal
 
-pub returns : need.returns
-returns c = checks-ruled
+pub returns : goal.returns
+returns c = checks_ruled

@@ -1,5 +1,5 @@
-use Rattle·signature·proofs.Counted.{signature-stands}
-use Rattle·signature·proofs.theorems.signature_stands.Needs as need
+use Rattle.signature.proofs.Counted.{signature_stands_lem}
+use Rattle.signature.proofs.theorems.signature_stands.Goals as goal
 
-pub returns : need.returns
-returns c = signature-stands
+pub returns : goal.returns
+returns c = signature_stands_lem

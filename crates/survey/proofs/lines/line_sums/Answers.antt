@@ -1,49 +1,45 @@
-use mathlib.Core.Path.{_≡_, sym, ap, ap₂, _∙_}
-use mathlib.Core.Logic.{∥∥₁-elim}
-use Prim.Native.Nat.{ℕ}
-use native.Mathlib.Omega.{arith}
-use native.Mathlib.Bridge.{le-prop}
-use lib.ListN.{getD}
-use Rattle·std.specs.declared.option.Option.the-variants.{Some}
-use Rattle·sums.proofs.Forest.{lines-stand, lines-low}
-use Rattle·survey·proofs.Places.{sums-item, sums-block}
-use Rattle·survey·proofs.lines.line_sums.Needs as need
+use Rattle.std.proofs.Common.{ℕ, get_or, Some, sym, ap, ◌∙◌, ap₂, arith}
+use mathlib.Core.Logic.{∥∥₁_elim}
+use native.Mathlib.Bridge.{le_prop}
+use Rattle.sums.proofs.Forest.{lines_stand, lines_low}
+use Rattle.survey.proofs.Places.{sums_item, sums_block}
+use Rattle.survey.proofs.lines.line_sums.Goals as goal
 
-pub place-of-place-a-requires : need.place-of-place-a-requires
-place-of-place-a-requires g c κs h k = lines-stand h (k .lawful) _ _ _ _ (c .pre .here h k ∙ ap Some (c .in-Block .is)) .0
+pub place_of-place_a-requires : goal.place_of-place_a-requires
+place_of-place_a-requires g c h k = (lines_stand h k.lawful _ _ _ _ (c.requires.here h k ∙ ap Some c.in-Block.is)).0
 
-pub place-of-place-b-requires : need.place-of-place-b-requires
-place-of-place-b-requires g c κs h k = lines-stand h (k .lawful) _ _ _ _ (c .pre .here h k ∙ ap Some (c .in-Block .is)) .1
+pub place_of-place_b-requires : goal.place_of-place_b-requires
+place_of-place_b-requires g c h k = (lines_stand h k.lawful _ _ _ _ (c.requires.here h k ∙ ap Some c.in-Block.is)).1
 
-pub at-x-requires : need.at-x-requires
-at-x-requires g c κs = ∥∥₁-elim (c .args .book .now .kept) (λ p q. le-prop p q) (λ kept.
-    let h = kept .0 in
-    let k = kept .1 in
-    let e = c .pre .here h k ∙ ap Some (c .in-Block .is) in
-    omega (arith, c .place-of-place-a .ensures h k, c .pre .below h k (c .in-Block .a .value) (lines-low h (k .lawful) _ _ _ _ e .0) (lines-stand h (k .lawful) _ _ _ _ e .0) .0))
+pub at-x-requires : goal.at-x-requires
+at-x-requires g c = ∥∥₁_elim c.args.book.now.kept (λ p q. le_prop p q) (λ kept.
+    let h = kept.0 in
+    let k = kept.1 in
+    let e = c.requires.here h k ∙ ap Some c.in-Block.is in
+    omega (arith, c.place_of-place_a.ensures h k, (c.requires.below h k c.in-Block.a.value (lines_low h k.lawful _ _ _ _ e).0 (lines_stand h k.lawful _ _ _ _ e).0).0))
 
-pub at-y-requires : need.at-y-requires
-at-y-requires g c κs = ∥∥₁-elim (c .args .book .now .kept) (λ p q. le-prop p q) (λ kept.
-    let h = kept .0 in
-    let k = kept .1 in
-    let e = c .pre .here h k ∙ ap Some (c .in-Block .is) in
-    omega (arith, c .place-of-place-b .ensures h k, c .pre .below h k (c .in-Block .b .value) (lines-low h (k .lawful) _ _ _ _ e .1) (lines-stand h (k .lawful) _ _ _ _ e .1) .0))
+pub at-y-requires : goal.at-y-requires
+at-y-requires g c = ∥∥₁_elim c.args.book.now.kept (λ p q. le_prop p q) (λ kept.
+    let h = kept.0 in
+    let k = kept.1 in
+    let e = c.requires.here h k ∙ ap Some c.in-Block.is in
+    omega (arith, c.place_of-place_b.ensures h k, (c.requires.below h k c.in-Block.b.value (lines_low h k.lawful _ _ _ _ e).1 (lines_stand h k.lawful _ _ _ _ e).1).0))
 
-pub returns-in-Item : need.returns-in-Item
+pub returns-in-Item : goal.returns-in-Item
 returns-in-Item g c h k =
-    ap₂ (λ u v. record { working = u; failing = v }) (c .item-sums .ensures .working) (c .item-sums .ensures .failing)
-    ∙ sym (sums-item (g .T·Tally .meaning (c .args .tally .now)) (g .T·Tally·met .lawful (c .args .tally .now)) h (k .lawful) _ (c .in-Item .item-type) (c .pre .here h k ∙ ap Some (c .in-Item .is)))
+    ap₂ (λ u v. record { working = u; failing = v }) c.item_sums.ensures.working c.item_sums.ensures.failing
+    ∙ sym (sums_item (g.T.Tally.meaning c.args.tally.now) (g.met.T.Tally.lawful c.args.tally.now) h k.lawful _ c.in-Item.item_type (c.requires.here h k ∙ ap Some c.in-Item.is))
 
-pub returns-in-Block : need.returns-in-Block
+pub returns-in-Block : goal.returns-in-Block
 returns-in-Block g c h k =
-    let m = g .T·Tally .meaning (c .args .tally .now) in
-    let places = c .args .bench .now .places .now in
-    let e = c .pre .here h k ∙ ap Some (c .in-Block .is) in
-    let low = lines-low h (k .lawful) _ _ _ _ e in
-    let on = lines-stand h (k .lawful) _ _ _ _ e in
-    let x = c .at-x .result in
-    let y = c .at-y .result in
-    sums-block m (g .T·Tally·met .lawful (c .args .tally .now)) h (k .lawful) _ (c .in-Block .kind) (c .in-Block .a) (c .in-Block .b) (c .joined .result) x y e
-    (c .at-x .ensures ∙ ap (λ (i : ℕ). getD places i x) (c .place-of-place-a .ensures h k) ∙ c .pre .below h k (c .in-Block .a .value) (low .0) (on .0) .1 x)
-    (c .at-y .ensures ∙ ap (λ (i : ℕ). getD places i y) (c .place-of-place-b .ensures h k) ∙ c .pre .below h k (c .in-Block .b .value) (low .1) (on .1) .1 y)
-    (c .joined .ensures .working) (c .joined .ensures .failing)
+    let m = g.T.Tally.meaning c.args.tally.now in
+    let places = c.args.bench.now.places.now in
+    let e = c.requires.here h k ∙ ap Some c.in-Block.is in
+    let low = lines_low h k.lawful _ _ _ _ e in
+    let on = lines_stand h k.lawful _ _ _ _ e in
+    let x = c.at-x.result in
+    let y = c.at-y.result in
+    sums_block m (g.met.T.Tally.lawful c.args.tally.now) h k.lawful _ c.in-Block.kind c.in-Block.a c.in-Block.b c.joined.result x y e
+    (c.at-x.ensures ∙ ap (λ (i : ℕ). get_or places i x) (c.place_of-place_a.ensures h k) ∙ (c.requires.below h k c.in-Block.a.value low.0 on.0).1 x)
+    (c.at-y.ensures ∙ ap (λ (i : ℕ). get_or places i y) (c.place_of-place_b.ensures h k) ∙ (c.requires.below h k c.in-Block.b.value low.1 on.1).1 y)
+    c.joined.ensures.working c.joined.ensures.failing

@@ -1,17 +1,15 @@
-use mathlib.Core.Path.{sym, ap, subst, _∙_}
-use mathlib.Core.List.{List}
-use native.Mathlib.Omega.{arith}
-use Rattle·rules.specs.declared.line.Line.{Line}
-use Rattle·rules.specs.Tables.{At}
-use Rattle·rules.specs.History.{given, standing}
-use Rattle·rules.proofs.Sound.{sound, some-positive}
-use Rattle·survey·proofs.Places.{at-place, not-refused, from-kept}
-use Rattle·survey·proofs.lines.place_of.Needs as need
+use Rattle.std.proofs.Common.{List, subst}
+use Rattle.rules.specs.declared.line.Line.{Line}
+use Rattle.rules.specs.Tables.{At}
+use Rattle.rules.specs.History.{given, standing}
+use Rattle.rules.proofs.Sound.{sound, some_positive}
+use Rattle.survey.proofs.Places.{at_place, not_refused, from_kept}
+use Rattle.survey.proofs.lines.place_of.Goals as goal
 
-pub unreachable-requires : need.unreachable-requires
-unreachable-requires c κs = absurd (from-kept (c .args .book .now) (λ h k. not-refused h (k .lawful) (c .args .number .value) _ (c .pre h k) (c .in-Err .ensures tt h k)))
+pub unreachable-requires : goal.unreachable-requires
+unreachable-requires c = absurd (from_kept c.args.book.now (λ h k. not_refused h k.lawful c.args.number.value _ (c.requires h k) (c.in-Err.ensures h k)))
 
-pub returns : need.returns
+pub returns : goal.returns
 returns c h k =
-    let n = c .args .number .value in
-    at-place h n _ (some-positive (standing h) (given h) (sound h (k .lawful)) n (c .pre h k)) (subst (λ (xs : List Line). At xs n (c .in-Ok .place)) (k .lines) (c .in-Ok .ensures tt .0))
+    let n = c.args.number.value in
+    at_place h n _ (some_positive (standing h) (given h) (sound h k.lawful) n (c.requires h k)) (subst (λ (xs : List Line). At xs n c.in-Ok.place) k.lines c.in-Ok.ensures.0)

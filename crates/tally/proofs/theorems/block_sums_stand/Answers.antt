@@ -1,5 +1,5 @@
-use Rattle·sums.proofs.Blocks.{block-sums-stand}
-use Rattle·tally·proofs.theorems.block_sums_stand.Needs as need
+use Rattle.sums.proofs.Blocks.{block_sums_stand_lem}
+use Rattle.tally.proofs.theorems.block_sums_stand.Goals as goal
 
-pub returns : need.returns
-returns g c t = block-sums-stand (g .T·Tally·met .lawful t)
+pub returns : goal.returns
+returns g c t = block_sums_stand_lem (g.met.T.Tally.lawful t)

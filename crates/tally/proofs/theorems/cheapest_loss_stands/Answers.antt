@@ -1,5 +1,5 @@
-use Rattle·tally·proofs.Losses.{cheapest-loss-stands}
-use Rattle·tally·proofs.theorems.cheapest_loss_stands.Needs as need
+use Rattle.tally.proofs.Losses.{cheapest_loss_stands_lem}
+use Rattle.tally.proofs.theorems.cheapest_loss_stands.Goals as goal
 
-pub returns : need.returns
-returns c = cheapest-loss-stands
+pub returns : goal.returns
+returns c = cheapest_loss_stands_lem

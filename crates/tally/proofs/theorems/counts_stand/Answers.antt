@@ -1,5 +1,5 @@
-use Rattle·tally·proofs.Counting.{counts-stand}
-use Rattle·tally·proofs.theorems.counts_stand.Needs as need
+use Rattle.tally.proofs.Counting.{counts_stand_lem}
+use Rattle.tally.proofs.theorems.counts_stand.Goals as goal
 
-pub returns : need.returns
-returns c = counts-stand
+pub returns : goal.returns
+returns c = counts_stand_lem

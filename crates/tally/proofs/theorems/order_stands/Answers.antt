@@ -1,5 +1,5 @@
-use Rattle·sums.proofs.Order.{order-stands}
-use Rattle·tally·proofs.theorems.order_stands.Needs as need
+use Rattle.sums.proofs.Order.{order_stands_lem}
+use Rattle.tally.proofs.theorems.order_stands.Goals as goal
 
-pub returns : need.returns
-returns g c t = order-stands (g .T·Tally·met .lawful t)
+pub returns : goal.returns
+returns g c t = order_stands_lem (g.met.T.Tally.lawful t)

@@ -1,6 +1,6 @@
-use native.Mathlib.Omega.{arith}
-use Rattle·text·proofs.Finding.{empty-ended}
-use Rattle·text·proofs.bytes.is_ended.Needs as need
+use Rattle.std.proofs.Common.{arith}
+use Rattle.text.proofs.Finding.{empty_ended}
+use Rattle.text.proofs.bytes.is_ended.Goals as goal
 
-pub returns-in-None : need.returns-in-None
-returns-in-None c = empty-ended (c .args .text .now) (omega (arith, c .in-None .ensures tt))
+pub returns-in-None : goal.returns-in-None
+returns-in-None c = empty_ended c.args.text.now (omega (arith, c.in-None.ensures))

@@ -1,6 +1,6 @@
-use Rattle·text·proofs.Places.{lines-stand}
-use Rattle·text·proofs.Writing.{lines-written}
-use Rattle·text·proofs.laws.texts_stand.Needs as need
+use Rattle.text.proofs.Places.{lines_stand}
+use Rattle.text.proofs.Writing.{lines_written}
+use Rattle.text.proofs.laws.texts_stand.Goals as goal
 
-pub returns : need.returns
-returns c = record { lines-stand = lines-stand; lines-written = lines-written }
+pub returns : goal.returns
+returns c = record { lines_stand = lines_stand; lines_written = lines_written }

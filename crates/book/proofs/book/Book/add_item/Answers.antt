@@ -1,38 +1,34 @@
-use mathlib.Core.Logic.{∥∥₁-map}
-use mathlib.Core.List.{_∷_}
-use native.Mathlib.Omega.{arith}
-use Rattle·std.specs.Of.Vec.{vec-items}
-use Rattle·rules.specs.declared.change.Change.the-variants.{Issue}
-use Rattle·book·proofs.Steps.{issue-step, issue-fits, kept-bound, few-numbers}
-use Rattle·book·proofs.book.Book.add_item.Needs as need
+use mathlib.Core.Logic.{∥∥₁_map}
+use Rattle.std.proofs.Common.{◌∷◌, vec_items, arith}
+use Rattle.rules.specs.declared.change.Change.TheVariants.{Issue}
+use Rattle.book.proofs.Steps.{issue_step, issue_fits, kept_bound, few_numbers}
+use Rattle.book.proofs.book.Book.add_item.Goals as goal
 
-pub add-next : need.add-next
-add-next c = omega (arith, few-numbers (c .args .self .now))
+pub overflow_add-next : goal.overflow_add-next
+overflow_add-next c = omega (arith, few_numbers c.args.self.now)
 
-pub add-requires : need.add-requires
-add-requires c κs =
-    let b = c .args .self .now in
-    let few = kept-bound b _ _ (λ h k. issue-fits h (vec-items (b .table .lines)) (b .last) k (c .args .asked) (c .pre .allowed h k)) in
-    omega (arith, b .table .lines .ok .0)
+pub add-requires : goal.add-requires
+add-requires c =
+    let b = c.args.self.now in
+    let few = kept_bound b _ _ (λ h k. issue_fits h (vec_items b.table.lines) b.last k c.args.asked (c.requires.allowed h k)) in
+    omega (arith, b.table.lines.ok.0)
 
-pub ghost-self : need.ghost-self
-ghost-self c =
-    let b = c .args .self .now in (
-      omega arith,
-      (
-        ∥∥₁-map (b .kept) (λ k. (
-          Issue (c .args .asked) ∷ k .0,
-          issue-step (k .0) (vec-items (b .table .lines)) (b .last) (k .1) (c .args .asked) (c .new-number .result .value) (c .args .item-type) (vec-items (c .add .last .self .lines))
-              (c .pre .allowed (k .0) (k .1)) (c .pre .known) (c .new-number .ensures) (c .add .ensures .items),
-        )),
-        tt,
-      ),
-    )
+pub invariant_of-self : goal.invariant_of-self
+invariant_of-self c =
+    let b = c.args.self.now in
+    record {
+      room = omega arith;
+      kept = ∥∥₁_map b.kept (λ k. (
+        Issue c.args.asked ∷ k.0,
+        issue_step k.0 (vec_items b.table.lines) b.last k.1 c.args.asked c.new-number.result.value c.args.item_type (vec_items c.add.new.self.lines)
+            (c.requires.allowed k.0 k.1) c.requires.known c.new-number.ensures c.add.ensures.items,
+      ));
+    }
 
-pub returns : need.returns
+pub returns : goal.returns
 returns c h k =
-    let b = c .args .self .now in (
-      issue-step h (vec-items (b .table .lines)) (b .last) k (c .args .asked) (c .new-number .result .value) (c .args .item-type) (vec-items (c .add .last .self .lines))
-          (c .pre .allowed h k) (c .pre .known) (c .new-number .ensures) (c .add .ensures .items),
-      omega (arith, k .last),
+    let b = c.args.self.now in (
+      issue_step h (vec_items b.table.lines) b.last k c.args.asked c.new-number.result.value c.args.item_type (vec_items c.add.new.self.lines)
+          (c.requires.allowed h k) c.requires.known c.new-number.ensures c.add.ensures.items,
+      omega (arith, k.last),
     )

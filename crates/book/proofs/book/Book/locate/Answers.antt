@@ -1,19 +1,18 @@
-use mathlib.Core.Path.{sym, ap, _∙_}
-use Rattle·std.specs.Of.Vec.{vec-items}
-use Rattle·rules.specs.declared.line.Line.{Line}
-use Rattle·book·proofs.Steps.{mark-there, use-allowed, use-refused}
-use Rattle·book·proofs.book.Book.locate.Needs as need
+use Rattle.std.proofs.Common.{vec_items, sym, ap, ◌∙◌}
+use Rattle.rules.specs.declared.line.Line.{Line}
+use Rattle.book.proofs.Steps.{mark_there, use_allowed, use_refused}
+use Rattle.book.proofs.book.Book.locate.Goals as goal
 
-pub returns-then-at : need.returns-then-at
+pub returns-then-at : goal.returns-then-at
 returns-then-at c h k =
-    let b = c .args .self .now in
-    let n = c .args .number .value in
-    let f = c .in-Continue-place .ensures tt in
-    use-refused h n (f .1 h k .0) (mark-there h (vec-items (b .table .lines)) (b .last) k n (c .in-Continue-place .place) (f .0) ∙ ap (λ (l : Line). l .«built_in») (sym (c .at .ensures)) ∙ c .if-at .taken)
+    let b = c.args.self.now in
+    let n = c.args.number.value in
+    let f = c.in_ok-place.ensures in
+    use_refused h n (f.1 h k).0 (mark_there h (vec_items b.table.lines) b.last k n c.in_ok-place.place f.0 ∙ ap (λ (l : Line). l.built_in) (sym c.at.ensures) ∙ c.if-at.true)
 
-pub returns : need.returns
+pub returns : goal.returns
 returns c =
-    let b = c .args .self .now in
-    let n = c .args .number .value in
-    let f = c .in-Continue-place .ensures tt in
-    (f .0, λ h k. use-allowed h n (f .1 h k .0) (mark-there h (vec-items (b .table .lines)) (b .last) k n (c .in-Continue-place .place) (f .0) ∙ ap (λ (l : Line). l .«built_in») (sym (c .at .ensures)) ∙ c .if-at .left))
+    let b = c.args.self.now in
+    let n = c.args.number.value in
+    let f = c.in_ok-place.ensures in
+    (f.0, λ h k. use_allowed h n (f.1 h k).0 (mark_there h (vec_items b.table.lines) b.last k n c.in_ok-place.place f.0 ∙ ap (λ (l : Line). l.built_in) (sym c.at.ensures) ∙ c.if-at.false))

@@ -1,8 +1,7 @@
-use mathlib.Core.Path.{refl}
-use mathlib.Core.List.{[]}
-use Rattle·book·proofs.book.Book.new.Needs as need
+use Rattle.std.proofs.Common.{[], refl}
+use Rattle.book.proofs.book.Book.new.Goals as goal
 
-pub ghost-result : need.ghost-result
-ghost-result c =
-    let m = c .in-Continue-lines .ensures tt .made in
-    (m .1 .1, (∣ ([], record { lawful = tt; lines = m .0; last = refl }) ∣₁, tt))
+pub invariant_of-result : goal.invariant_of-result
+invariant_of-result c =
+    let m = c.in_ok-lines.ensures in
+    record { room = m.capacity; kept = ∣ ([], record { lawful = tt; lines = m.items; last = refl }) ∣₁ }

@@ -1,9 +1,9 @@
-use native.Mathlib.Omega.{arith}
-use Rattle·rules.proofs.Limits.{few-given}
-use Rattle·book·proofs.Steps.{kept-bound}
-use Rattle·book·proofs.book.Book.next_number.Needs as need
+use Rattle.std.proofs.Common.{arith}
+use Rattle.rules.proofs.Limits.{few_given}
+use Rattle.book.proofs.Steps.{kept_bound}
+use Rattle.book.proofs.book.Book.next_number.Goals as goal
 
-pub add-result : need.add-result
-add-result c =
-    let few = kept-bound (c .args .self .now) (c .last-number-last .result) 9999 (λ h k. omega (arith, c .last-number-last .ensures h k, few-given h (k .lawful))) in
+pub overflow_add-result : goal.overflow_add-result
+overflow_add-result c =
+    let few = kept_bound c.args.self.now c.last_number-last.result 9999 (λ h k. omega (arith, c.last_number-last.ensures h k, few_given h k.lawful)) in
     omega (arith, few)

@@ -1,12 +1,10 @@
-use Prim.Native.Nat.{ℕ}
-use mathlib.Core.Path.{_≡_, ap, _∙_}
-use native.Mathlib.Omega.{arith}
-use Rattle·place_set.specs.Sets.{size, both, members}
-use Rattle·count·proofs.by_type.PlacesByType.cell.Needs as need
+use Rattle.std.proofs.Common.{◌≡◌, ap, ◌∙◌, arith}
+use Rattle.place_set.specs.Sets.{size, both, members}
+use Rattle.count.proofs.by_type.PlacesByType.cell.Goals as goal
 
-pub returns : need.returns
+pub returns : goal.returns
 returns c =
-    let one : c .len-one .result ≡ size (both (members (c .args .state)) (members (c .args .self .one))) = c .len-one .ensures ∙ ap size (c .intersection .ensures) in
-    let two : c .len-two .result ≡ size (both (members (c .args .state)) (members (c .args .self .two))) = c .len-two .ensures ∙ ap size (c .intersection-2 .ensures) in
-    let three : c .len-three .result ≡ size (both (members (c .args .state)) (members (c .args .self .three))) = c .len-three .ensures ∙ ap size (c .intersection-3 .ensures) in
+    let one : c.len-one.result ≡ size (both (members c.args.state) (members c.args.self.one)) = c.len-one.ensures ∙ ap size c.intersection.ensures in
+    let two : c.len-two.result ≡ size (both (members c.args.state) (members c.args.self.two)) = c.len-two.ensures ∙ ap size c.intersection-2.ensures in
+    let three : c.len-three.result ≡ size (both (members c.args.state) (members c.args.self.three)) = c.len-three.ensures ∙ ap size c.intersection-3.ensures in
     omega arith

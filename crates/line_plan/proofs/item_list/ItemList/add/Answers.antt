@@ -1,8 +1,8 @@
-use Rattle·std.proofs.shelf.Lists.{take-more-set, length-take-le}
-use native.Mathlib.Omega.{arith}
-use Rattle·line_plan·proofs.item_list.ItemList.add.Needs as need
+use Rattle.std.proofs.lemmas.List.{take_more_set, length-take-le}
+use Rattle.std.proofs.Common.{arith}
+use Rattle.line_plan.proofs.item_list.ItemList.add.Goals as goal
 
-pub returns : need.returns
+pub returns : goal.returns
 returns c =
-    let self = c .args .self .now in
-    take-more-set (self .items) (self .count) (c .args .item) (omega (arith, c .pre, self .long, self .within, length-take-le (self .count) (self .items) (omega arith)))
+    let self = c.args.self.now in
+    take_more_set self.items self.count c.args.item (omega (arith, c.requires, self.long, self.within, length-take-le self.count self.items (omega arith)))

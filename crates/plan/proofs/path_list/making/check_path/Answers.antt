@@ -1,23 +1,20 @@
-use mathlib.Core.Path.{_≡_, sym, _∙_}
-use mathlib.Core.Bool.{true, false}
-use mathlib.Core.Logic.{⊎-elim}
-use native.Mathlib.Omega.{arith}
-use Rattle·std.proofs.shelf.Tests.{true≢false, cases-lt}
-use Rattle·place_set.proofs.Masks.{bit-above}
-use Rattle·plan·proofs.path_list.making.check_path.Needs as need
+use Rattle.std.proofs.Common.{sym, ◌∙◌, ⊎_elim, arith}
+use Rattle.std.proofs.lemmas.Bool.{true≢false, cases_lt}
+use Rattle.place_set.proofs.Masks.{bit_above}
+use Rattle.plan.proofs.path_list.making.check_path.Goals as goal
 
-pub returns : need.returns
+pub returns : goal.returns
 returns c =
-    let path = c .args .path in
-    let some = c .is-empty .ensures .some (c .if-is-empty .left) in (
+    let path = c.args.path in
+    let some = c.is_empty.ensures.some c.if-is_empty.false in (
       (
-        λ none. true≢false (sym (some .1) ∙ none (some .0)),
+        λ none. true≢false (sym some.1 ∙ none some.0),
         (
           λ fault.
-              ⊎-elim
-              (λ low. c .loop-place .inv (fault .0) (omega arith) (fault .1) (fault .2))
-              (λ high. true≢false (sym (fault .1) ∙ bit-above 16 (path .mask) (fault .0) (omega arith) high))
-              (cases-lt (fault .0) 16),
+              ⊎_elim
+              (λ low. c.loop-place.invariant fault.0 (omega arith) fault.1 fault.2)
+              (λ high. true≢false (sym fault.1 ∙ bit_above 16 path.mask fault.0 (omega arith) high))
+              (cases_lt fault.0 16),
           tt,
         ),
       ),

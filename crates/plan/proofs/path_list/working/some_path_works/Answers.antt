@@ -1,34 +1,29 @@
-use mathlib.Core.Path.{_≡_, sym, ap, subst, _∙_}
-use mathlib.Core.Bool.{true, false}
-use Prim.Native.Nat.{_<_}
-use borrow.Author.Count.{below-more}
-use native.Mathlib.Omega.{arith}
-use lib.ListN.{getD}
-use Rattle·place_set.specs.Sets.{members, less}
-use Rattle·plan·proofs.Paths.{no-place, covers-from, covers-fails, some-skip, some-hit, some-end}
-use Rattle·plan·proofs.path_list.working.some_path_works.Needs as need
+use Rattle.std.proofs.Common.{get_or, sym, ap, ◌∙◌, arith, below_more}
+use Rattle.place_set.specs.Sets.{members}
+use Rattle.plan.specs.PathsLemmas.{no_place, covers_from, covers_fails, some_skip, some_hit, some_end}
+use Rattle.plan.proofs.path_list.working.some_path_works.Goals as goal
 
 -- a place of the path fails, so the path is passed over
-pub paths-again : need.paths-again
-paths-again c =
-    let path = getD (c .args .paths .now) (c .paths .path-index) no-place in
-    let state = members (c .args .state) in (
-      sym (some-skip (c .args .paths .now) state (c .paths .path-index) (c .paths-test .taken)
-          (covers-fails path state (c .loop-place .place) (c .loop-place-test .taken) (sym (ap (λ s. s (c .loop-place .place)) (c .difference .ensures)) ∙ sym (c .if-contains .ensures tt))))
-          ∙ c .paths .inv .0,
-      c .paths .inv .1,
+pub paths-preserved : goal.paths-preserved
+paths-preserved c =
+    let path = get_or c.args.paths.now c.paths.path-index no_place in
+    let state = members c.args.state in (
+      sym (some_skip c.args.paths.now state c.paths.path-index c.paths-test.true
+          (covers_fails path state c.loop-place.place c.loop-place-test.true (sym (ap (λ s. s c.loop-place.place) c.difference.ensures) ∙ sym c.if-contains.ensures)))
+          ∙ c.paths.invariant.0,
+      c.paths.invariant.1,
     )
 
-pub loop-place-again : need.loop-place-again
-loop-place-again c =
-    below-more _ _ (c .loop-place .inv) (sym (ap (λ s. s (c .loop-place .place)) (c .difference .ensures)) ∙ sym (c .if-contains .ensures tt))
+pub loop-place-preserved : goal.loop-place-preserved
+loop-place-preserved c =
+    below_more _ _ c.loop-place.invariant (sym (ap (λ s. s c.loop-place.place) c.difference.ensures) ∙ sym c.if-contains.ensures)
 
-pub returns-after-paths : need.returns-after-paths
+pub returns-after-paths : goal.returns-after-paths
 returns-after-paths c =
-    c .paths .inv .1 ∙ sym (some-end (c .args .paths .now) (members (c .args .state)) (c .paths .path-index) (c .paths-test .left)) ∙ c .paths .inv .0
+    c.paths.invariant.1 ∙ sym (some_end c.args.paths.now (members c.args.state) c.paths.path-index c.paths-test.false) ∙ c.paths.invariant.0
 
-pub returns-after-loop-place : need.returns-after-loop-place
+pub returns-after-loop-place : goal.returns-after-loop-place
 returns-after-loop-place c =
-    let path = getD (c .args .paths .now) (c .paths .path-index) no-place in
-    let state = members (c .args .state) in
-    sym (some-hit (c .args .paths .now) state (c .paths .path-index) (c .paths-test .taken) (covers-from path state (λ k lt. c .loop-place .inv k (omega arith)))) ∙ c .paths .inv .0
+    let path = get_or c.args.paths.now c.paths.path-index no_place in
+    let state = members c.args.state in
+    sym (some_hit c.args.paths.now state c.paths.path-index c.paths-test.true (covers_from path state (λ k lt. c.loop-place.invariant k (omega arith)))) ∙ c.paths.invariant.0

@@ -1,14 +1,11 @@
-use mathlib.Core.Path.{ap₂}
-use Prim.Native.Nat.{_*_}
-use native.Mathlib.Nat.{mul-le-mul}
-use native.Mathlib.Omega.{arith}
-use Rattle·survival·proofs.fixed_point.FixedPoint.product.Needs as need
+use Rattle.std.proofs.Common.{◌*◌, ap₂, mul-le-mul, arith}
+use Rattle.survival.proofs.fixed_point.FixedPoint.product.Goals as goal
 
-pub mul-result : need.mul-result
-mul-result c = omega (arith, ap₂ _*_ (c .from .ensures) (c .from-2 .ensures), mul-le-mul (c .args .self .within) (c .args .other .within))
+pub overflow_mul-result : goal.overflow_mul-result
+overflow_mul-result c = omega (arith, ap₂ ◌*◌ c.from.ensures c.from-2.ensures, mul-le-mul c.args.self.within c.args.other.within)
 
-pub returns : need.returns
+pub returns : goal.returns
 returns c = record {
-  value = ap₂ _*_ (c .from .ensures) (c .from-2 .ensures);
-  small = omega (arith, ap₂ _*_ (c .from .ensures) (c .from-2 .ensures), mul-le-mul (c .args .self .within) (c .args .other .within));
+  value = ap₂ ◌*◌ c.from.ensures c.from-2.ensures;
+  small = omega (arith, ap₂ ◌*◌ c.from.ensures c.from-2.ensures, mul-le-mul c.args.self.within c.args.other.within);
 }

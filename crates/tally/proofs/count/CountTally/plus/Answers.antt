@@ -1,6 +1,6 @@
-use borrow.Author.Needs.{needs}
-use Rattle·tally·proofs.Wrapping.{counted-mod}
-use Rattle·tally·proofs.count.CountTally.plus.Needs as need
+use Rattle.std.proofs.Common.{rules}
+use Rattle.tally.specs.Wrapping.{counted_mod}
+use Rattle.tally.proofs.count.CountTally.plus.Goals as goal
 
-pub returns : need.returns
-returns c = search (needs, counted-mod)
+pub returns : goal.returns
+returns c = search (rules, counted_mod)

@@ -1,6 +1,6 @@
-use borrow.Author.Needs.{needs}
-use Rattle·tally·proofs.Capped.{same-loss}
-use Rattle·tally·proofs.loss.Loss.new.Needs as need
+use Rattle.std.proofs.Common.{rules}
+use Rattle.tally.specs.Capped.{same_loss}
+use Rattle.tally.proofs.loss.Loss.new.Goals as goal
 
-pub returns : need.returns
-returns c = same-loss _ _ (search needs)
+pub returns : goal.returns
+returns c = same_loss _ _ (search rules)

@@ -1,6 +1,6 @@
-use borrow.Author.Needs.{needs}
-use Rattle·tally·proofs.Wrapping.{same-count}
-use Rattle·tally·proofs.state_count.StateCount.new.Needs as need
+use Rattle.std.proofs.Common.{rules}
+use Rattle.tally.specs.Wrapping.{same_count}
+use Rattle.tally.proofs.state_count.StateCount.new.Goals as goal
 
-pub returns : need.returns
-returns c = same-count _ _ (search needs)
+pub returns : goal.returns
+returns c = same_count _ _ (search rules)

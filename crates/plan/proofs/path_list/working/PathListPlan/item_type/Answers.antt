@@ -1,7 +1,6 @@
-use mathlib.Core.Path.{sym}
-use native.Mathlib.Omega.{arith}
-use Rattle·plan·proofs.Paths.{type-above}
-use Rattle·plan·proofs.path_list.working.PathListPlan.item_type.Needs as need
+use Rattle.std.proofs.Common.{sym, arith}
+use Rattle.plan.specs.PathsLemmas.{type_above}
+use Rattle.plan.proofs.path_list.working.PathListPlan.item_type.Goals as goal
 
-pub returns-then-place-gt15 : need.returns-then-place-gt15
-returns-then-place-gt15 c = sym (type-above (c .args .self .now .numbers) (c .args .place) (c .args .self .now .long) (omega arith))
+pub returns-then-place-gt15 : goal.returns-then-place-gt15
+returns-then-place-gt15 c = sym (type_above c.args.self.now.numbers c.args.place c.args.self.now.long (omega arith))

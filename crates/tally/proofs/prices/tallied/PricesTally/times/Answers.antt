@@ -1,6 +1,6 @@
-use borrow.Author.Needs.{needs}
-use Rattle·tally·proofs.Capped.{lost-capped}
-use Rattle·tally·proofs.prices.tallied.PricesTally.times.Needs as need
+use Rattle.std.proofs.Common.{rules}
+use Rattle.tally.specs.Capped.{lost_capped}
+use Rattle.tally.proofs.prices.tallied.PricesTally.times.Goals as goal
 
-pub returns : need.returns
-returns c = search (needs, lost-capped)
+pub returns : goal.returns
+returns c = search (rules, lost_capped)

@@ -1,0 +1,11 @@
+use Rattle.std.proofs.Common.{◌≡◌, ◌++◌, drop}
+use Rattle.rules.specs.History.{History, lines_of}
+use Rattle.rules.specs.Trees.{items, tree_of}
+use Rattle.book.specs.Keeps.{Keeps}
+use Rattle.line_plan.specs.Items.{listed}
+use Rattle.line_plan.proofs.Picking.{picked}
+use Rattle.line_plan.proofs.beneath.items_beneath.Given as goal
+
+abbrev pub invariant-loop-line : goal.invariant-loop-line
+invariant-loop-line l = (h : History) → Keeps h l.book
+    → listed l.items ++ picked (items (tree_of h l.number.value)) (drop l.line-index l.lines) ≡ picked (items (tree_of h l.number.value)) (lines_of h)
