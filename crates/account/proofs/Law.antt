@@ -1,14 +1,19 @@
 -- The law of whole runs.
-use Rattle.std.proofs.Common.{◌≡◌, ℕ, zero, suc, ◌≤◌, true, false, cond, eqb, ◌⊎◌, List, [], ◌∷◌, ◌++◌, length, is_some, is_ok, Some, None, Ok, Err, Option, Result, sym, refl, ap, ◌∙◌, subst, inl, inr, ⊎_elim, arith, MatchResult}
+use Rattle.std.proofs.Common.{◌≡◌, ℕ, zero, suc, ◌<◌, ◌≤◌, true, false, cond, eqb, ◌⊎◌, List, [], ◌∷◌, ◌++◌, length, drop, is_some, is_ok, Some, None, Ok, Err, Option, Result, sym, refl, ap, ◌∙◌, subst, inl, inr, ⊎_elim, arith, MatchResult}
+use Rattle.std.specs.List.{slice_get}
+use Rattle.std.proofs.lemmas.Option.{slice_get-get_or}
+use Rattle.std.proofs.lemmas.List.{get_or_append_left, length-append, length-map}
 use Rattle.std.proofs.lemmas.Bool.{ne_eqb, eq-eqb, cond-true, cond-false}
 use Rattle.rules.specs.declared.change.Change.{Change}
 use Rattle.rules.specs.declared.change.Change.TheVariants.{Issue, Join, Withdraw}
+use Rattle.rules.specs.declared.item_type.ItemType.{ItemType}
 use Rattle.rules.specs.declared.line.Line.{Line}
 use Rattle.rules.specs.declared.line.Part.{Part}
 use Rattle.rules.specs.declared.part_number.PartNumber.{PartNumber}
 use Rattle.rules.specs.declared.refusal.Refusal.{Refusal}
-use Rattle.rules.specs.History.{History, given, standing, how_many, line_of, place_in}
-use Rattle.rules.specs.Rules.{Rule, Allowed, Decided}
+use Rattle.rules.specs.declared.refusal.Refusal.TheVariants.{MixedTypes, BenchTooShort}
+use Rattle.rules.specs.History.{History, given, standing, how_many, lines_standing, line_of, lines_of, place_in}
+use Rattle.rules.specs.Rules.{Rule, ◌when◌, Allowed, Decided}
 use Rattle.rules.specs.Ruled.{naming, change_rules, change_number, QuestionRuled, Lawful}
 use Rattle.rules.proofs.Counting.{cond_cases}
 use Rattle.rules.proofs.Sound.{usable}
@@ -17,16 +22,26 @@ use Rattle.sums.specs.Semiring.{Meaning}
 use Rattle.book.specs.declared.book.Book.{Book}
 use Rattle.book.specs.Keeps.{Keeps, Makes}
 use Rattle.book.specs.Snapshots.{Same}
-use Rattle.survey.specs.Surveys.{survey_rules}
+use Rattle.plan.specs.Plans.{Structure, LawfulPlan}
+use Rattle.plan.specs.LinePlans.{plan_of_line as planned_line}
+use Rattle.plan.specs.Piles.{Layer, piled}
+use Rattle.plan.proofs.Piles.{piled_lawful}
+use Rattle.count.proofs.Steps.{step_up}
+use Rattle.agreement.proofs.Agreement.{ways_agree_lem}
+use Rattle.survey.specs.declared.bench.Sums.{Sums}
+use Rattle.survey.specs.Surveys.{sums_of, all_sums, left_on}
+use Rattle.survey.proofs.Places.{stands_at, sum_at}
+use Rattle.row.specs.Rows.{FailureRow, Mixed}
+use Rattle.survival.specs.Ruled.{share_rules, SurvivalOf}
 use Rattle.sheet.specs.declared.fault.Fault.{Fault}
-use Rattle.sheet.specs.Texts.{Line as SheetLine}
-use Rattle.sheet.specs.Readings.{change_of}
+use Rattle.text.specs.Texts.{Line as SheetLine}
+use Rattle.text.specs.Readings.{change_of}
 use Rattle.sheet.specs.Checks.{Checked, check_of, above_last}
 use Rattle.sheet.specs.Applying.{InTurn, LineRuled, SheetRuled, Applies, changes_of, asked}
 use Rattle.sheet.specs.Laws.{check_rules, refusal_of}
 use Rattle.sheet.proofs.Closings.{checks_ruled}
-use Rattle.account.specs.Calls.{Call, change, sheet, question, survey, changes_in, noted, history, Ruled, one_if_answered, answered, TakenOut, ChangeNames, SomeNames, Names, IsRefused}
-use Rattle.account.specs.Runs.{Step, Run, WholeRuns}
+use Rattle.account.specs.Calls.{Reading, question, survey, row, survival, plan_of_line, lockout, long_count, Call, change, sheet, reading, changes_in, noted, history, ReadingRuled, Ruled, one_if_answered, answered, TakenOut, ChangeNames, SomeNames, ReadingNames, Names, ReadingRefused, IsRefused}
+use Rattle.account.specs.Runs.{Reads, Step, Run, WholeRuns}
 
 -- a checked sheet has the lines of its text above the last
 applied : (text : List ℕ) (s : Checked) → check_of text ≡ Ok s → s.above ≡ above_last text
@@ -54,8 +69,7 @@ module _ {I : Type 0} {F : I → Type 0} (meaning : (i : I) → Meaning (F i)) w
   step_keeps : (c : Call I F) (cs : List (Call I F)) (b b' : Book) → Step meaning c b b' → Keeps (history cs) b → Keeps (history (c ∷ cs)) b'
   step_keeps (change d r) cs b b' s k = made_keeps d r (history cs) b b' s k
   step_keeps (sheet text r) cs b b' s k = entered_keeps text (check_of text) refl r (history cs) b b' s k
-  step_keeps (question n r) cs b b' s k = subst (Keeps (history cs)) (sym s.1) k
-  step_keeps (survey i n old r new) cs b b' s k = subst (Keeps (history cs)) (sym s.1) k
+  step_keeps (reading q) cs b b' s k = subst (Keeps (history cs)) (sym s.1) k
 
   run_keeps : (cs : List (Call I F)) (b : Book) → Run meaning cs b → Keeps (history cs) b
   run_keeps [] b k = k
@@ -70,12 +84,21 @@ module _ {I : Type 0} {F : I → Type 0} (meaning : (i : I) → Meaning (F i)) w
   entered_ruled (Ok s) r h b b' a k = a.1 h k
   entered_ruled (Err f) r h b b' a k = a.0
 
+  reading_ruled : (q : Reading I F) (h : History) (b : Book) → Reads meaning q b → Keeps h b → ReadingRuled meaning h q
+  reading_ruled (question n r) h b s k = s h k
+  reading_ruled (survey i n old (Ok p) new) h b s k = (s.answer h k, s.bench h k)
+  reading_ruled (survey i n old (Err e) new) h b s k = (s.answer h k, s.bench)
+  reading_ruled (row n old old_row (Ok u) new new_row) h b s k = (s.answer h k, s.left h k)
+  reading_ruled (row n old old_row (Err e) new new_row) h b s k = (s.answer h k, s.left)
+  reading_ruled (survival n shares r) h b s k = s h k
+  reading_ruled (plan_of_line n r) h b s k = s h k
+  reading_ruled (lockout i r) h b s k = s
+  reading_ruled (long_count p old r new) h b s k = s
+
   step_ruled : (c : Call I F) (h : History) (b b' : Book) → Step meaning c b b' → Keeps h b → Ruled meaning h c
   step_ruled (change d r) h b b' s k = s.1 h k
   step_ruled (sheet text r) h b b' s k = entered_ruled (check_of text) r h b b' s k
-  step_ruled (question n r) h b b' s k = s.0 h k
-  step_ruled (survey i n old (Ok p) new) h b b' s k = (s.0.answer h k, s.0.bench h k)
-  step_ruled (survey i n old (Err e) new) h b b' s k = (s.0.answer h k, s.0.bench)
+  step_ruled (reading q) h b b' s k = reading_ruled q h b s.0 k
 
   newest_ruled : (c : Call I F) (before : List (Call I F)) (b' : Book) → Run meaning (c ∷ before) b' → Lawful (history before) × Ruled meaning (history before) c
   newest_ruled c before b' (b, run, s) = let k = run_keeps before b run in (k.lawful, step_ruled c (history before) b b' s k)
@@ -159,21 +182,59 @@ sheet_refused text (Err f) e (Ok m) n h o w ruled = absurd (let z : ◌≡◌ {A
 sheet_refused text (Ok s) e (Ok m) n h o w ruled =
     absurd (lines_refused s.above n h o (subst (λ (ls : List SheetLine). SomeNames n (changes_of ls)) (sym (applied text s e)) w) ruled.2)
 
-out_refused : {I : Type 0} {F : I → Type 0} (meaning : (i : I) → Meaning (F i)) (c : Call I F) (n : ℕ) (h : History) → Out n h → Names n c → Ruled meaning h c → IsRefused c
-out_refused meaning (change d r) n h o w ruled = refused (change_rules h d) (λ m. m.value ≡ change_number h d) r (change_refused d n h o w) ruled
-out_refused meaning (sheet text r) n h o w ruled = sheet_refused text (check_of text) refl r n h o w ruled
-out_refused meaning (question m r) n h o w ruled = refused (naming h m) (λ l. line_of h m ≡ Some l) r (inr (inl (ap (standing h) w ∙ o.1))) ruled
-out_refused meaning (survey i m old r new) n h o w ruled = refused (survey_rules h m (length old)) (λ p. p ≡ place_in h m) r (inr (inl (ap (standing h) w ∙ o.1))) ruled.0
+-- a call that names what is out on the line m is refused, if the rules begin with those of naming a line
+naming_refused : {X : Type 0} (m n : ℕ) (h : History) (rs : List Rule) (A : X → Type 0) (r : Result X Refusal)
+    → Out n h → m ≡ n → Decided (naming h m ++ rs) A r → is_ok r ≡ false
+naming_refused m n h rs A r o e ruled = refused (naming h m ++ rs) A r (inr (inl (ap (standing h) e ∙ o.1))) ruled
 
-pub whole_runs : {I : Type 0} {F : I → Type 0} (meaning : (i : I) → Meaning (F i)) → WholeRuns meaning
-whole_runs meaning = record {
-  ruled = λ later c before b run. let m = moment meaning later (c ∷ before) b run in (newest_ruled meaning c before m.0 m.1).1;
+module _ {I : Type 0} {F : I → Type 0} (meaning : (i : I) → Meaning (F i)) where
+  reading_out : (q : Reading I F) (n : ℕ) (h : History) → Out n h → ReadingNames n q → ReadingRuled meaning h q → ReadingRefused q
+  reading_out (question m r) n h o w ruled = naming_refused m n h [] (λ l. line_of h m ≡ Some l) r o w ruled
+  reading_out (survey i m old r new) n h o w ruled = naming_refused m n h (BenchTooShort when (length old < lines_standing h) ∷ []) (λ p. p ≡ place_in h m) r o w ruled.0
+  reading_out (row m old old_row r new new_row) n h o w ruled = naming_refused m n h (MixedTypes when Mixed h m ∷ BenchTooShort when (length old < lines_standing h) ∷ []) (λ _. (t : ItemType) × FailureRow h m t new_row) r o w ruled.0
+  reading_out (survival m s r) n h o w ruled = naming_refused m n h (share_rules s) (λ p. SurvivalOf h m s p.0.units p.1.units) r o w ruled
+  reading_out (plan_of_line m r) n h o w ruled = naming_refused m n h [] (λ p. p ≡ planned_line h m) r o w ruled
+  reading_out (lockout i r) n h o w ruled = absurd w
+  reading_out (long_count p old r new) n h o w ruled = absurd w
+
+  out_refused : (c : Call I F) (n : ℕ) (h : History) → Out n h → Names n c → Ruled meaning h c → IsRefused c
+  out_refused (change d r) n h o w ruled = refused (change_rules h d) (λ m. m.value ≡ change_number h d) r (change_refused d n h o w) ruled
+  out_refused (sheet text r) n h o w ruled = sheet_refused text (check_of text) refl r n h o w ruled
+  out_refused (reading q) n h o w ruled = reading_out q n h o w ruled
+
+-- an answered survey leaves the sums of each standing line at its place
+at_its_place : {F : Type 0} (m : Meaning F) (h : History) → Lawful h → (n : ℕ) → is_some (standing h n) ≡ true → (old : List (Sums F)) → slice_get (left_on m h old) (place_in h n) ≡ Some (sums_of m h n)
+at_its_place {F} m h l n e old =
+    let a = stands_at h l n e in
+    let sums = all_sums m h in
+    let d = sums_of m h n in
+    let rest = drop (length (lines_of h)) old in
+    let here : place_in h n < length sums = omega (arith, a.0, length-map (lines_of h) (λ (x : Line). sums_of m h x.number.value)) in
+    slice_get-get_or (sums ++ rest) (place_in h n) d (omega (arith, length-append sums rest))
+    ∙ ap Some (get_or_append_left sums rest d (place_in h n) here ∙ sum_at m h (place_in h n) d a.0 ∙ ap (sums_of m h) a.1)
+
+pub whole_runs : {I : Type 0} {F : I → Type 0} (meaning : (i : I) → Meaning (F i)) {P : Type 0} (plan : P → Structure) → ((p : P) → LawfulPlan (plan p)) → WholeRuns meaning plan
+whole_runs {I} {F} meaning {P} plan laws = record {
+  ruled = λ later c before b run. (now_ruled later c before b run).1;
+  surveyed = λ later before i n place old new b run.
+      let k = now_ruled later (reading (survey i n old (Ok place) new)) before b run in
+      (k.1.0.1, λ m e. ap (λ (places : List (Sums (F i))). slice_get places (place_in (history before) m)) k.1.1 ∙ at_its_place (meaning i) (history before) k.0 m e old);
+  agree = λ cs b run m e. ways_agree_lem (history cs) (run_keeps meaning cs b run).lawful m e;
   balanced = λ cs b run q is.
       let k = run_keeps meaning cs b run in
       let h = history cs in
       omega (arith, balance h k.lawful, answered_standing h q (λ n. is n h k) (given h) (omega arith));
   gone = λ later c before b run n out names.
-      let m = moment meaning later (c ∷ before) b run in
-      let k = newest_ruled meaning c before m.0 m.1 in
+      let k = now_ruled later c before b run in
       out_refused meaning c n (history before) (taken_out (history before) n k.0 out) names k.1;
+  lawful = piled_laws;
+  steps_up = λ p layers. step_up (piled layers (plan p)) (piled_laws p layers);
+  counted = λ later before p layers old new b run.
+      (now_ruled later (reading (long_count (piled layers (plan p)) old (Ok tt) new)) before b run).1.answer.1.counts;
 }
+  where
+    now_ruled : (later : List (Call I F)) (c : Call I F) (before : List (Call I F)) (b : Book) → Run meaning (later ++ c ∷ before) b → Lawful (history before) × Ruled meaning (history before) c
+    now_ruled later c before b run = let m = moment meaning later (c ∷ before) b run in newest_ruled meaning c before m.0 m.1
+
+    piled_laws : (p : P) (layers : List Layer) → LawfulPlan (piled layers (plan p))
+    piled_laws p layers = piled_lawful layers (plan p) (laws p)

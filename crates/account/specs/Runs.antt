@@ -1,32 +1,65 @@
 -- Runs of calls on one book from new, and the law that every run keeps.
-use Rattle.std.specs.Prelude.{◌≡◌, ℕ, ◌+◌, List, [], ◌∷◌, ◌++◌, Result}
+use Rattle.std.specs.Prelude.{◌≡◌, ℕ, ◌+◌, true, List, [], ◌∷◌, ◌++◌, is_some, Some, Ok, Result}
+use Rattle.std.specs.List.{slice_get}
 use Rattle.rules.specs.declared.line.Line.{Line}
 use Rattle.rules.specs.declared.refusal.Refusal.{Refusal}
-use Rattle.rules.specs.History.{History, given, lines_standing, withdrawals}
+use Rattle.rules.specs.History.{History, given, standing, lines_standing, place_in, withdrawals}
 use Rattle.sums.specs.Semiring.{Meaning}
+use Rattle.cells.specs.declared.table.CellTable.{CellTable}
+use Rattle.plan.specs.Plans.{Structure, LawfulPlan}
+use Rattle.plan.specs.Lockouts.{LockoutRuled}
+use Rattle.plan.specs.Piles.{Layer, piled}
+use Rattle.plan.specs.LinePlans.{PlanRuled}
+use Rattle.count.specs.Counts.{working_states}
+use Rattle.count.specs.Laws.{Holds, StepUp, CountRuled}
+use Rattle.agreement.specs.Agreement.{WaysAgree}
 use Rattle.book.specs.declared.book.Book.{Book}
 use Rattle.book.specs.Keeps.{Keeps, Makes, Asks}
-use Rattle.survey.specs.Surveys.{Surveyed}
+use Rattle.survey.specs.declared.bench.Sums.{Sums}
+use Rattle.survey.specs.Surveys.{sums_of, Surveyed}
+use Rattle.row.specs.Rows.{Rowed}
+use Rattle.survival.specs.Ruled.{SurvivalRuled}
 use Rattle.sheet.specs.Applying.{Enters}
-use Rattle.account.specs.Calls.{Call, change, sheet, question, survey, history, Ruled, answered, TakenOut, Names, IsRefused}
+use Rattle.account.specs.Calls.{Reading, question, survey, row, survival, plan_of_line, lockout, long_count, Call, change, sheet, reading, history, Ruled, answered, TakenOut, Names, IsRefused}
 
--- the call, between the book before it and the book after it, as its own contract says
+-- a call on the book b that leaves it as it is, as its own contract says
+abbrev pub Reads : {I : Type 0} {F : I → Type 0} → ((i : I) → Meaning (F i)) → Reading I F → Book → Type 0
+Reads meaning (question n r) b = Asks n b r
+Reads meaning (survey i n old r new) b = Surveyed (meaning i) n b old new r
+Reads meaning (row n old old_row r new new_row) b = Rowed n b old new old_row new_row r
+Reads meaning (survival n s r) b = (h : History) → Keeps h b → SurvivalRuled h n s r
+Reads meaning (plan_of_line n r) b = (h : History) → Keeps h b → PlanRuled h n r
+Reads meaning (lockout i r) b = LockoutRuled i r
+Reads meaning (long_count p old r new) b = CountRuled p old r new
+
+-- a call, between the book before it and the book after it, as its own contract says
 abbrev pub Step : {I : Type 0} {F : I → Type 0} → ((i : I) → Meaning (F i)) → Call I F → Book → Book → Type 0
 Step meaning (change d r) b b' = Makes d b r b'
 Step meaning (sheet text r) b b' = Enters text b r b'
-Step meaning (question n r) b b' = Asks n b r × (b' ≡ b)
-Step meaning (survey i n old r new) b b' = Surveyed (meaning i) n b old new r × (b' ≡ b)
+Step meaning (reading q) b b' = Reads meaning q b × (b' ≡ b)
 
 -- the calls, the newest first, were made on one book from new, which then is b
 abbrev pub Run : {I : Type 0} {F : I → Type 0} → ((i : I) → Meaning (F i)) → List (Call I F) → Book → Type 0
 Run meaning [] b = Keeps [] b
 Run meaning (c ∷ cs) b' = (b : Book) × Run meaning cs b × Step meaning c b b'
 
--- The law of whole runs. Each moment of a run is itself a run.
-pub record WholeRuns {I : Type 0} {F : I → Type 0} (meaning : (i : I) → Meaning (F i)) : Type 0 where
+-- The law of whole runs, for surveys under a family of tallies, and for plans of a type P. Each moment
+-- of a run is itself a run.
+pub record WholeRuns {I : Type 0} {F : I → Type 0} (meaning : (i : I) → Meaning (F i)) {P : Type 0} (plan : P → Structure) : Type 0 where
   -- each call was accepted, answered or refused as the rules say of the accepted calls before it alone
   pub ruled : (later : List (Call I F)) (c : Call I F) (before : List (Call I F)) (b : Book)
       → Run meaning (later ++ c ∷ before) b → Ruled meaning (history before) c
+  -- a survey that was answered left, at the place of each line m then standing, the line's two sums
+  -- over all states, and answered the place of the named line
+  pub surveyed : (later before : List (Call I F)) (i : I) (n place : ℕ) (old new : List (Sums (F i))) (b : Book)
+      → Run meaning (later ++ reading (survey i n old (Ok place) new) ∷ before) b
+      → (place ≡ place_in (history before) n)
+      × ((m : ℕ) → is_some (standing (history before) m) ≡ true
+      → slice_get new (place_in (history before) m) ≡ Some (sums_of (meaning i) (history before) m))
+  -- under the signature the first sum of each line m then standing is, cell for cell, the table that
+  -- the long count fills from the line's plan, and steps up
+  pub agree : (cs : List (Call I F)) (b : Book) → Run meaning cs b
+      → (m : ℕ) → is_some (standing (history cs) m) ≡ true → WaysAgree (history cs) m
   -- numbers given equal lines standing, whose numbers a question then answers, plus withdrawals made
   pub balanced : (cs : List (Call I F)) (b : Book) → Run meaning cs b
       → (q : ℕ → Result Line Refusal) → ((n : ℕ) → Asks n b (q n))
@@ -34,6 +67,13 @@ pub record WholeRuns {I : Type 0} {F : I → Type 0} (meaning : (i : I) → Mean
   -- a number once withdrawn is refused by every later call, and every later sheet, that names it
   pub gone : (later : List (Call I F)) (c : Call I F) (before : List (Call I F)) (b : Book)
       → Run meaning (later ++ c ∷ before) b → (n : ℕ) → TakenOut n (history before) → Names n c → IsRefused c
+  -- any pile of lockouts and mirrors over a plan keeps the laws of plans, and the numbers of states in
+  -- which it works step up; where the long count took the pile, it left just these numbers
+  pub lawful : (p : P) (layers : List Layer) → LawfulPlan (piled layers (plan p))
+  pub steps_up : (p : P) (layers : List Layer) → StepUp (piled layers (plan p)) (working_states (piled layers (plan p)))
+  pub counted : (later before : List (Call I F)) (p : P) (layers : List Layer) (old new : CellTable) (b : Book)
+      → Run meaning (later ++ reading (long_count (piled layers (plan p)) old (Ok tt) new) ∷ before) b
+      → Holds new.cells (working_states (piled layers (plan p)))
 
 -- whatever was called on the book before, the call goes on the run
 abbrev pub GoesOn : {I : Type 0} {F : I → Type 0} → ((i : I) → Meaning (F i)) → Call I F → Book → Book → Type 0

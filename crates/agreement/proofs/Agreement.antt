@@ -5,35 +5,33 @@ use Rattle.rules.specs.declared.item_type.ItemType.{ItemType}
 use Rattle.rules.specs.declared.line.Part.{Part}
 use Rattle.rules.specs.declared.line.Part.TheVariants.{Item, Block}
 use Rattle.rules.specs.Types.{type_number}
-use Rattle.rules.specs.History.{History, given, standing, has as has_number, how_many, is_item_of, listing}
+use Rattle.rules.specs.History.{History, given, standing, has, how_many, is_item_of, listing}
 use Rattle.rules.specs.Rules.{Allowed}
 use Rattle.rules.specs.Ruled.{Lawful}
 use Rattle.rules.specs.Trees.{items, tree_of, type_at, type_in}
 use Rattle.rules.proofs.Counting.{how_many_same}
 use Rattle.rules.proofs.Limits.{few_of_type}
-use Rattle.sums.specs.States.{keep}
-use Rattle.sums.specs.Order.{range as from}
+use Rattle.sums.specs.States.{range, keep, count, states_passing}
+use Rattle.sums.specs.ByType.{is_type, numbers_work}
 use Rattle.sums.specs.Places.{rising_in}
 use Rattle.sums.specs.Sums.{working_sum}
 use Rattle.sums.proofs.Forest.{tree_once}
 use Rattle.sums.proofs.Members.{once_distinct}
+use Rattle.sums.proofs.Order.{count_order}
 use Rattle.sums.proofs.Places.{places_stand_lem}
-use Rattle.tally.specs.Counts.{states_passing}
 use Rattle.cells.specs.Tables.{at}
 use Rattle.cells.proofs.Tables.{same_cells}
 use Rattle.signature.specs.Signature.{signature}
-use Rattle.signature.specs.Counted.{has}
 use Rattle.signature.specs.Laws.{signature_semiring}
 use Rattle.signature.proofs.Counted.{sum_counts}
 use Rattle.plan.specs.LinePlans.{plan_of_line}
-use Rattle.plan.specs.Sets.{range, count}
-use Rattle.plan.proofs.Masks.{count_range}
-use Rattle.count.specs.Counts.{is_type, is_of_type, places, places_of, working_states, count_rules}
+use Rattle.place_set.proofs.Masks.{count_range}
+use Rattle.plan.proofs.LinePlans.{rising_alike, rising_in_distinct, few_rising, place_filled, place_empty, line_plan_lawful}
+use Rattle.count.specs.Counts.{is_of_type, places, places_of, working_states, count_rules}
+use Rattle.count.proofs.Over.{count_append}
 use Rattle.count.proofs.Choosing.{working_bounded}
 use Rattle.count.proofs.Tables.{long_counted}
 use Rattle.agreement.specs.Agreement.{AllWaysAgree}
-use Rattle.agreement.proofs.Bridge.{range_same, count_append, states_same, count_order}
-use Rattle.agreement.proofs.LinePlans.{rising_alike, rising_in_distinct, few_rising, place_filled, place_empty, line_plan_lawful}
 
 -- a test that the first n of the numbers from k on pass, and no later one, keeps these
 keep_none : (q : ℕ → Bool) (k m : ℕ) → ((i : ℕ) → k ≤ i → q i ≡ false) → keep q (range k m) ≡ []
@@ -87,7 +85,7 @@ module _ (h : History) (l : Lawful h) (n : ℕ) (on : is_some (standing h n) ≡
       omega (
         arith,
         rising_of t,
-        listing_fewer (has_number (items (tree_of h n))) (λ i. is_type t (type_in h i)) (given h),
+        listing_fewer (has (items (tree_of h n))) (λ i. is_type t (type_in h i)) (given h),
         how_many_same (λ i. is_type t (type_in h i)) (λ i. is_item_of (type_number t) (standing h i)) (given h) (λ i lo hi. item_of t (standing h i)),
         few_of_type (type_number t) h l,
       )
@@ -96,9 +94,8 @@ module _ (h : History) (l : Lawful h) (n : ℕ) (on : is_some (standing h n) ≡
   pub cells_count : (a b c : ℕ) → a < 8 → b < 8 → c < 8 → at (working_sum signature (type_in h) (tree_of h n)) a b c ≡ working_states (plan_of_line h n) a b c
   cells_count a b c la lb lc =
       ap (λ x. at x a b c) (sym (places_stand_lem signature_semiring h l n on).working)
-      ∙ sum_counts (plan_of_line h n).types (from 0 (length (rising_in h n))) (plan_of_line h n).works a b c la lb lc
-      ∙ ap (λ ps. states_passing ps (λ s. (plan_of_line h n).works s && has (plan_of_line h n).types ps a b c s) % 65536) (range_same 0 (length (rising_in h n)) ∙ sym line_places)
-      ∙ ap (λ m. m % 65536) (states_same (plan_of_line h n) a b c)
+      ∙ sum_counts (plan_of_line h n).types (range 0 (length (rising_in h n))) (plan_of_line h n).works a b c la lb lc
+      ∙ ap (λ ps. states_passing ps (λ s. (plan_of_line h n).works s && numbers_work (plan_of_line h n).types ps a b c s) % 65536) (sym line_places)
       ∙ mod-eq_of_lt (omega (arith, working_bounded (plan_of_line h n) few_places a b c))
 
 pub ways_agree_lem : AllWaysAgree

@@ -1,3 +1,1 @@
-pub mod Bridge
-pub mod LinePlans
 pub mod Agreement

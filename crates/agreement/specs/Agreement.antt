@@ -5,13 +5,14 @@ use Rattle.rules.specs.History.{History, standing}
 use Rattle.rules.specs.Rules.{Allowed}
 use Rattle.rules.specs.Ruled.{Lawful}
 use Rattle.rules.specs.Trees.{items, tree_of, type_in}
+use Rattle.sums.specs.States.{count}
+use Rattle.sums.specs.ByType.{is_type}
 use Rattle.sums.specs.Sums.{working_sum}
 use Rattle.cells.specs.declared.table.CellTable.{CellTable}
 use Rattle.signature.specs.Signature.{signature}
 use Rattle.plan.specs.Plans.{LawfulPlan}
-use Rattle.plan.specs.Sets.{count}
 use Rattle.plan.specs.LinePlans.{plan_of_line}
-use Rattle.count.specs.Counts.{is_type, places_of, count_rules}
+use Rattle.count.specs.Counts.{places_of, count_rules}
 use Rattle.count.specs.Laws.{LongCounted}
 
 -- what holds of the standing line n

@@ -6,10 +6,10 @@ use Rattle.std.proofs.lemmas.Bool.{cases_eq, cases_lt, false≢true, lt-ltb, le-
 use Rattle.rules.specs.declared.item_type.ItemType.{ItemType}
 use Rattle.rules.specs.declared.item_type.ItemType.TheVariants.{One, Two, Three}
 use Rattle.rules.specs.Trees.{State}
-use Rattle.sums.specs.States.{all_failed, put, states, keep}
+use Rattle.sums.specs.States.{all_failed, put, states, keep, range, count}
 use Rattle.plan.specs.Plans.{Structure}
-use Rattle.plan.specs.Sets.{range, count}
-use Rattle.count.specs.Counts.{is_type, is_of_type, places, places_of, in_cell, total_states, working_states}
+use Rattle.sums.specs.ByType.{is_type}
+use Rattle.count.specs.Counts.{is_of_type, places, places_of, in_cell, total_states, working_states}
 use Rattle.count.specs.Laws.{choose, choices}
 use Rattle.count.proofs.Over.{over, Distinct, put_same, count_states, over_agree, over_zero}
 use Rattle.count.proofs.Lists.{places_distinct}

@@ -8,15 +8,16 @@ use Rattle.rules.specs.declared.item_type.ItemType.{ItemType}
 use Rattle.rules.specs.declared.item_type.ItemType.TheVariants.{One, Two, Three}
 use Rattle.rules.specs.Rules.{Allowed}
 use Rattle.rules.specs.Trees.{State}
-use Rattle.sums.specs.States.{all_failed, keep}
-use Rattle.plan.specs.declared.place_set.PlaceSet.{PlaceSet}
+use Rattle.sums.specs.States.{all_failed, keep, range, count}
+use Rattle.place_set.specs.declared.PlaceSet.{PlaceSet}
 use Rattle.plan.specs.Plans.{Structure}
-use Rattle.plan.specs.Sets.{bit, members, range, count, size, both, Within, NextBelow}
-use Rattle.plan.proofs.Masks.{within_and, and_within}
+use Rattle.place_set.specs.Sets.{bit, members, size, both, Within, NextBelow}
+use Rattle.place_set.proofs.Masks.{within_and, and_within}
 use Rattle.cells.specs.Cells.{cell}
 use Rattle.count.specs.declared.by_type.PlacesByType.{PlacesByType}
 use Rattle.count.specs.ByType.{Sorted, some_type}
-use Rattle.count.specs.Counts.{is_type, is_of_type, places, places_of, working_of, in_cell, working_states, count_rules}
+use Rattle.sums.specs.ByType.{is_type}
+use Rattle.count.specs.Counts.{is_of_type, places, places_of, working_in, in_cell, working_states, count_rules}
 use Rattle.count.proofs.Over.{over, count_states}
 use Rattle.count.proofs.Lists.{size_working}
 use Rattle.count.proofs.Subsets.{sum_below, sum_none, sum_more, sum_gap, inner, subset_sum}
@@ -98,7 +99,7 @@ module _ (p : Structure) (m : PlacesByType) (sorted : Sorted p m) where
 
   -- where a state's cell stands
   abbrev pub place_of : State → ℕ
-  place_of s = working_of p One s + 8 * working_of p Two s + 64 * working_of p Three s
+  place_of s = working_in p One s + 8 * working_in p Two s + 64 * working_in p Three s
 
   pub cell_is : (s : State) (i : ℕ) → i ≡ size (both s (members m.one)) + 8 * size (both s (members m.two)) + 64 * size (both s (members m.three)) → i ≡ place_of s
   cell_is s i e =
@@ -117,11 +118,11 @@ count_part q f (x ∷ xs) = at (q x) (f x) (count_part q f xs)
     at false w h = omega arith
 
 module _ (p : Structure) (few : (t : ItemType) → places_of p t ≤ 7) where
-  pub working_few : (t : ItemType) (s : State) → working_of p t s ≤ 7
+  pub working_few : (t : ItemType) (s : State) → working_in p t s ≤ 7
   working_few t s = let le = count_part (is_of_type p t) s (places p) in let most = few t in omega arith
 
   abbrev pub index : State → ℕ
-  index s = working_of p One s + 8 * working_of p Two s + 64 * working_of p Three s
+  index s = working_in p One s + 8 * working_in p Two s + 64 * working_in p Three s
 
   pub index_below : (s : State) → index s < 512
   index_below s = let one = working_few One s in let two = working_few Two s in let three = working_few Three s in omega arith
@@ -131,17 +132,17 @@ module _ (p : Structure) (few : (t : ItemType) → places_of p t ≤ 7) where
       let one = working_few One s in
       let two = working_few Two s in
       let three = working_few Three s in
-      and_from (eqb (working_of p One s) a) (eqb (working_of p Two s) b && eqb (working_of p Three s) c) (eq-eqb (working_of p One s) a (omega arith))
-      (and_from (eqb (working_of p Two s) b) (eqb (working_of p Three s) c) (eq-eqb (working_of p Two s) b (omega arith)) (eq-eqb (working_of p Three s) c (omega arith)))
+      and_from (eqb (working_in p One s) a) (eqb (working_in p Two s) b && eqb (working_in p Three s) c) (eq-eqb (working_in p One s) a (omega arith))
+      (and_from (eqb (working_in p Two s) b) (eqb (working_in p Three s) c) (eq-eqb (working_in p Two s) b (omega arith)) (eq-eqb (working_in p Three s) c (omega arith)))
 
   has_elsewhere : (s : State) (a b c : ℕ) → (a + 8 * b + 64 * c ≡ index s → ⊥) → in_cell p a b c s ≡ false
   has_elsewhere s a b c ne = ⊎_elim (λ on. absurd (ne (same on))) (λ off. off) (cases_Bool (in_cell p a b c s))
     where
       same : in_cell p a b c s ≡ true → a + 8 * b + 64 * c ≡ index s
       same on =
-          let one = and_parts (eqb (working_of p One s) a) (eqb (working_of p Two s) b && eqb (working_of p Three s) c) on in
-          let two = and_parts (eqb (working_of p Two s) b) (eqb (working_of p Three s) c) one.1 in
-          omega (arith, eqb-true (working_of p One s) a one.0, eqb-true (working_of p Two s) b two.0, eqb-true (working_of p Three s) c two.1)
+          let one = and_parts (eqb (working_in p One s) a) (eqb (working_in p Two s) b && eqb (working_in p Three s) c) on in
+          let two = and_parts (eqb (working_in p Two s) b) (eqb (working_in p Three s) c) one.1 in
+          omega (arith, eqb-true (working_in p One s) a one.0, eqb-true (working_in p Two s) b two.0, eqb-true (working_in p Three s) c two.1)
 
   -- one more state in its cell, and nothing elsewhere
   pub counts_one : (cells : List ℕ) (s : State) → length cells ≡ 512 → p.works s ≡ true → (i : ℕ) → i ≡ index s → (a b c : ℕ) → a < 8 → b < 8 → c < 8
@@ -163,10 +164,10 @@ module _ (p : Structure) (few : (t : ItemType) → places_of p t ≤ 7) where
   counts_none s off a b c = rw off
 
   -- what a cell holds so far is far from the limit of 16 bits
-  pub cell_room : (cells : List ℕ) (s : State) (i rest : ℕ) → i ≡ index s → cell cells (working_of p One s) (working_of p Two s) (working_of p Three s) + rest ≡ working_states p (working_of p One s) (working_of p Two s) (working_of p Three s)
+  pub cell_room : (cells : List ℕ) (s : State) (i rest : ℕ) → i ≡ index s → cell cells (working_in p One s) (working_in p Two s) (working_in p Three s) + rest ≡ working_states p (working_in p One s) (working_in p Two s) (working_in p Three s)
       → get_or cells i 0 + 1 < 65536
   cell_room cells s i rest is so_far =
-      let most = working_bounded p few (working_of p One s) (working_of p Two s) (working_of p Three s) in
+      let most = working_bounded p few (working_in p One s) (working_in p Two s) (working_in p Three s) in
       let here = ap (λ j. get_or cells j 0) is in
       omega arith
 

@@ -6,10 +6,11 @@ use mathlib.Core.List.{Memᴰ}
 use Rattle.std.proofs.lemmas.Bool.{false≢true, and_parts, and_right, cases_eq, cases_lt, lt-ltb, le-ltb, eq-eqb, ne_eqb}
 use Rattle.rules.specs.declared.item_type.ItemType.{ItemType}
 use Rattle.rules.specs.Trees.{State}
-use Rattle.sums.specs.States.{keep}
+use Rattle.sums.specs.States.{keep, range, count}
 use Rattle.plan.specs.Plans.{Structure}
-use Rattle.plan.specs.Sets.{range, count, size, both, adding}
-use Rattle.count.specs.Counts.{is_type, is_of_type, places, places_of, working_of}
+use Rattle.place_set.specs.Sets.{size, both, adding}
+use Rattle.sums.specs.ByType.{is_type}
+use Rattle.count.specs.Counts.{is_of_type, places, places_of, working_in}
 use Rattle.count.proofs.Over.{Distinct}
 
 range_above : (k n j : ℕ) → Memᴰ j (range k n) → k ≤ j
@@ -64,7 +65,7 @@ pub size_places : (p : Structure) (t : ItemType) → size (is_of_type p t) ≡ p
 unfolding size places
 size_places p t = sym (count_kept (λ i. is_some (p.types i)) (is_of_type p t) (range 0 16) (λ i on. some_type t (p.types i) on))
 
-pub size_working : (p : Structure) (t : ItemType) (s : State) → size (both s (is_of_type p t)) ≡ working_of p t s
+pub size_working : (p : Structure) (t : ItemType) (s : State) → size (both s (is_of_type p t)) ≡ working_in p t s
 unfolding size places
 size_working p t s =
     ap (λ q. count q (range 0 16)) (fun_ext (λ i. swap (s i) (is_of_type p t i)))

@@ -4,8 +4,7 @@ use mathlib.Core.Path.{fun_ext}
 use mathlib.Core.List.{Memᴰ}
 use Rattle.std.proofs.lemmas.Bool.{eq-eqb, ne_eqb, eqb-true}
 use Rattle.rules.specs.Trees.{State}
-use Rattle.sums.specs.States.{put, states}
-use Rattle.plan.specs.Sets.{count}
+use Rattle.sums.specs.States.{put, states, count}
 
 -- f at each state of the places, added up; all else is as in s
 abbrev pub over : List ℕ → State → (State → ℕ) → ℕ
@@ -39,7 +38,7 @@ put_swap i j ne v w s = fun_ext (λ k. at k (eqb i k) (eqb j k) refl refl)
     at k false true e f = refl
     at k false false e f = refl
 
-count_append : {A : Type 0} (q : A → Bool) (xs ys : List A) → count q (xs ++ ys) ≡ count q xs + count q ys
+pub count_append : {A : Type 0} (q : A → Bool) (xs ys : List A) → count q (xs ++ ys) ≡ count q xs + count q ys
 count_append q [] ys = sym (zero-add _)
 count_append q (x ∷ xs) ys = ap (λ n. cond (q x) 1 0 + n) (count_append q xs ys) ∙ sym (add_assoc _ _ _)
 

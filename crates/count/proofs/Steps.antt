@@ -7,10 +7,10 @@ use Rattle.std.proofs.lemmas.Bool.{cases_lt, false≢true}
 use Rattle.rules.specs.declared.item_type.ItemType.{ItemType}
 use Rattle.rules.specs.declared.item_type.ItemType.TheVariants.{One, Two, Three}
 use Rattle.rules.specs.Trees.{State}
-use Rattle.sums.specs.States.{all_failed, put, states}
+use Rattle.sums.specs.States.{all_failed, put, states, count}
 use Rattle.plan.specs.Plans.{Structure, LawfulPlan}
-use Rattle.plan.specs.Sets.{count}
-use Rattle.count.specs.Counts.{is_type, is_of_type, places, working_of, working_states}
+use Rattle.sums.specs.ByType.{is_type}
+use Rattle.count.specs.Counts.{is_of_type, places, working_in, working_states}
 use Rattle.count.specs.Laws.{StepUp}
 use Rattle.count.proofs.Over.{over, Distinct, put_same, put_other, put_put, put_swap, count_states, over_agree, over_zero}
 use Rattle.count.proofs.Lists.{places_distinct}
@@ -174,21 +174,21 @@ module _ (p : Structure) (laws : LawfulPlan p) where
 
   -- two other types' numbers do not see a place of the type t
   blind : (t u v : ItemType) → is_type u (Some t) ≡ false → is_type v (Some t) ≡ false → (x y : ℕ) (i : ℕ) → is_of_type p t i ≡ true → (w : Bool) (s : State)
-      → (eqb (working_of p u (put i w s)) x && eqb (working_of p v (put i w s)) y) ≡ (eqb (working_of p u s) x && eqb (working_of p v s) y)
+      → (eqb (working_in p u (put i w s)) x && eqb (working_in p v (put i w s)) y) ≡ (eqb (working_in p u s) x && eqb (working_in p v s) y)
   blind t u v tu tv x y i yes_of w s =
       ap₂ (λ m n. eqb m x && eqb n y) (working_blind (is_of_type p u) (places p) i (apart t u tu (p.types i) yes_of) w s) (working_blind (is_of_type p v) (places p) i (apart t v tv (p.types i) yes_of) w s)
 
   pub step_up : StepUp p (working_states p)
   step_up = record {
-    one = λ a b c _ _ _. step-at (is_of_type p One) p.works (λ s. eqb (working_of p Two s) b && eqb (working_of p Three s) c) mono (blind One Two Three refl refl b c) (places p) (places_distinct p) a;
+    one = λ a b c _ _ _. step-at (is_of_type p One) p.works (λ s. eqb (working_in p Two s) b && eqb (working_in p Three s) c) mono (blind One Two Three refl refl b c) (places p) (places_distinct p) a;
     two = λ a b c _ _ _. rw (two-first a b c, two-first a (b + 1) c)
-        (step-at (is_of_type p Two) p.works (λ s. eqb (working_of p One s) a && eqb (working_of p Three s) c) mono (blind Two One Three refl refl a c) (places p) (places_distinct p) b);
+        (step-at (is_of_type p Two) p.works (λ s. eqb (working_in p One s) a && eqb (working_in p Three s) c) mono (blind Two One Three refl refl a c) (places p) (places_distinct p) b);
     three = λ a b c _ _ _. rw (last-first a b c, last-first a b (c + 1))
-        (step-at (is_of_type p Three) p.works (λ s. eqb (working_of p One s) a && eqb (working_of p Two s) b) mono (blind Three One Two refl refl a b) (places p) (places_distinct p) c);
+        (step-at (is_of_type p Three) p.works (λ s. eqb (working_in p One s) a && eqb (working_in p Two s) b) mono (blind Three One Two refl refl a b) (places p) (places_distinct p) c);
   }
     where
-      two-first : (a b c : ℕ) → working_states p a b c ≡ count (λ s. p.works s && (eqb (working_of p Two s) b && (eqb (working_of p One s) a && eqb (working_of p Three s) c))) all
-      two-first a b c = ap (λ q. count q all) (fun_ext (λ s. second_first (p.works s) (eqb (working_of p One s) a) (eqb (working_of p Two s) b) (eqb (working_of p Three s) c)))
+      two-first : (a b c : ℕ) → working_states p a b c ≡ count (λ s. p.works s && (eqb (working_in p Two s) b && (eqb (working_in p One s) a && eqb (working_in p Three s) c))) all
+      two-first a b c = ap (λ q. count q all) (fun_ext (λ s. second_first (p.works s) (eqb (working_in p One s) a) (eqb (working_in p Two s) b) (eqb (working_in p Three s) c)))
 
-      last-first : (a b c : ℕ) → working_states p a b c ≡ count (λ s. p.works s && (eqb (working_of p Three s) c && (eqb (working_of p One s) a && eqb (working_of p Two s) b))) all
-      last-first a b c = ap (λ q. count q all) (fun_ext (λ s. third_first (p.works s) (eqb (working_of p One s) a) (eqb (working_of p Two s) b) (eqb (working_of p Three s) c)))
+      last-first : (a b c : ℕ) → working_states p a b c ≡ count (λ s. p.works s && (eqb (working_in p Three s) c && (eqb (working_in p One s) a && eqb (working_in p Two s) b))) all
+      last-first a b c = ap (λ q. count q all) (fun_ext (λ s. third_first (p.works s) (eqb (working_in p One s) a) (eqb (working_in p Two s) b) (eqb (working_in p Three s) c)))

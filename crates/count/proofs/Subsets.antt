@@ -5,9 +5,9 @@ use lib.Bits.{bit_and, and_step, and_zero_l}
 use lib.Dec.{eqb-zero-suc, eqb-suc-zero, eqb-suc-suc}
 use Rattle.std.proofs.lemmas.Bool.{cases_eq, cases_Bool, eqb-true, eqb-false, eq-eqb, ne_eqb}
 use Rattle.rules.specs.Trees.{State}
-use Rattle.sums.specs.States.{all_failed, put, keep}
-use Rattle.plan.specs.Sets.{bit, range}
-use Rattle.plan.proofs.Masks.{bit_zero, bit_suc, bit_none, range_suc}
+use Rattle.sums.specs.States.{all_failed, put, keep, range}
+use Rattle.place_set.specs.Sets.{bit}
+use Rattle.place_set.proofs.Masks.{bit_zero, bit_suc, bit_none, range_suc}
 use Rattle.count.proofs.Over.{over, over_plus}
 
 -- the sum of f over the numbers below n

@@ -3,7 +3,7 @@ use Rattle.std.specs.Prelude.{◌≡◌}
 use Rattle.rules.specs.declared.item_type.ItemType.TheVariants.{One, Two, Three}
 use Rattle.rules.specs.Trees.{State}
 use Rattle.plan.specs.Plans.{Structure}
-use Rattle.plan.specs.Sets.{members, either}
+use Rattle.place_set.specs.Sets.{members, either}
 use Rattle.count.specs.Counts.{is_of_type}
 use Rattle.count.specs.declared.by_type.PlacesByType.{PlacesByType}
 

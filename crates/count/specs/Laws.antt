@@ -1,9 +1,12 @@
 -- What holds of the counts of every lawful plan, and of the tables that hold them.
-use Rattle.std.specs.Prelude.{◌≡◌, ℕ, zero, suc, ◌+◌, ◌-◌, ◌*◌, ◌<◌, ◌≤◌, List}
+use Rattle.std.specs.Prelude.{◌≡◌, ℕ, zero, suc, ◌+◌, ◌-◌, ◌*◌, ◌<◌, ◌≤◌, List, IfErr, Result}
 use Rattle.rules.specs.declared.item_type.ItemType.TheVariants.{One, Two, Three}
+use Rattle.rules.specs.declared.refusal.Refusal.{Refusal}
+use Rattle.rules.specs.Rules.{Decided}
 use Rattle.plan.specs.Plans.{Structure}
+use Rattle.cells.specs.declared.table.CellTable.{CellTable}
 use Rattle.cells.specs.Cells.{cell}
-use Rattle.count.specs.Counts.{places_of, total_states, working_states}
+use Rattle.count.specs.Counts.{places_of, total_states, working_states, count_rules}
 
 -- each of the 512 cells is what f says
 abbrev pub Holds : List ℕ → (ℕ → ℕ → ℕ → ℕ) → Type 0
@@ -36,8 +39,18 @@ pub record LongCounted (p : Structure) (cells : List ℕ) : Type 0 where
   pub bounded : AtMost 2450 cells
   pub steps_up : StepUp p (cell cells)
 
+-- the answer to a long count of the plan p, and what it leaves of the table that was there before
+pub record CountRuled (p : Structure) (old : CellTable) (r : Result (Unit {0}) Refusal) (new : CellTable) : Type 0 where
+  pub answer : Decided (count_rules p) (λ _. LongCounted p new.cells) r
+  pub kept : IfErr r (λ _. new ≡ old)
+
 -- what the totals leave in a table: the numbers of all states, which are products of binomials
 pub record Totalled (p : Structure) (cells : List ℕ) : Type 0 where
   pub counts : Holds cells (total_states p)
   pub bounded : AtMost 2450 cells
   pub products : Holds cells (choices p)
+
+-- the answer to the totals of the plan p, and what they leave of the table that was there before
+pub record TotalsRuled (p : Structure) (old : CellTable) (r : Result (Unit {0}) Refusal) (new : CellTable) : Type 0 where
+  pub answer : Decided (count_rules p) (λ _. Totalled p new.cells) r
+  pub kept : IfErr r (λ _. new ≡ old)

@@ -1,11 +1,12 @@
 ghost use Rattle.std.specs.Prelude.{◌≡◌, ℕ, ◌+◌, ◌*◌, ◌<◌, ◌≤◌};
 ghost use Rattle.rules.specs.Rules.{Decided};
-ghost use Rattle.plan.specs.Sets.{members, both, size};
-ghost use Rattle.count.specs.Counts.{is_type, is_of_type, count_rules};
+ghost use Rattle.place_set.specs.Sets.{members, both, size};
+ghost use Rattle.sums.specs.ByType.{is_type};
+ghost use Rattle.count.specs.Counts.{is_of_type, count_rules};
 ghost use Rattle.count.specs.ByType.{Sorted, some_type};
 
+use place_set::PlaceSet;
 use plan::Plan;
-use plan::place_set::PlaceSet;
 use rules::item_type::ItemType;
 use rules::refusal::Refusal;
 

@@ -5,10 +5,7 @@ mod by_type;
 pub mod laws;
 mod states;
 
-ghost use Rattle.std.specs.Prelude.{◌≡◌, ℕ, ◌<◌, ◌≤◌, OnErr};
-ghost use Rattle.rules.specs.Rules.{Decided};
-ghost use Rattle.count.specs.Counts.{count_rules};
-ghost use Rattle.count.specs.Laws.{LongCounted, Totalled};
+ghost use Rattle.count.specs.Laws.{CountRuled, TotalsRuled};
 
 use binomials::count_choices;
 use by_type::places_by_type;
@@ -21,8 +18,7 @@ use states::count_working_states;
 // (a, b, c) for those with a, b and c places of types 1, 2 and 3 working. It tries each state once.
 // A plan with more than 7 places of one type is refused, and the table stays as it was.
 pub fn long_count<P: Plan>(plan: &P, table: &mut CellTable) -> Result<(), Refusal>
-    ensures counted { Decided (count_rules (P.Plan.meaning plan.now)) (λ _. LongCounted (P.Plan.meaning plan.now) table.new.cells) result }
-    ensures kept { OnErr result (table.new ≡ table.old) }
+    ensures { CountRuled (P.Plan.meaning plan.now) table.old result table.new }
 {
     let places = places_by_type(plan)?;
     *table = CellTable::new(count_working_states(plan, places));
@@ -32,8 +28,7 @@ pub fn long_count<P: Plan>(plan: &P, table: &mut CellTable) -> Result<(), Refusa
 // Fills the table with the numbers of all such states, whether the plan works or not. The refusal is
 // that of the long count.
 pub fn totals<P: Plan>(plan: &P, table: &mut CellTable) -> Result<(), Refusal>
-    ensures counted { Decided (count_rules (P.Plan.meaning plan.now)) (λ _. Totalled (P.Plan.meaning plan.now) table.new.cells) result }
-    ensures kept { OnErr result (table.new ≡ table.old) }
+    ensures { TotalsRuled (P.Plan.meaning plan.now) table.old result table.new }
 {
     let places = places_by_type(plan)?;
     let (one, two, three) = (places.one.len(), places.two.len(), places.three.len());
@@ -44,10 +39,10 @@ pub fn totals<P: Plan>(plan: &P, table: &mut CellTable) -> Result<(), Refusal>
 #[cfg(test)]
 mod tests {
     use super::*;
+    use place_set::PlaceSet;
     use plan::lockout::{LockedPlace, Lockout};
     use plan::mirror::Mirror;
     use plan::path_list::PathList;
-    use plan::place_set::PlaceSet;
     use std::process::Abort;
     use std::test::Fail;
 

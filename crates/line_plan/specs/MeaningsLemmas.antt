@@ -16,7 +16,7 @@ use Rattle.rules.specs.History.{has}
 use Rattle.rules.specs.Trees.{State}
 use Rattle.sums.specs.Order.{place_of}
 use Rattle.sums.specs.States.{all_failed, put}
-use Rattle.plan.specs.Sets.{Within}
+use Rattle.place_set.specs.Sets.{Within}
 use Rattle.plan.specs.Plans.{Agree, LawfulPlan}
 use Rattle.line_plan.specs.declared.LinePlan.{LinePlan}
 use Rattle.line_plan.specs.declared.item_list.TypedItem.{TypedItem}

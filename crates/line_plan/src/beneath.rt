@@ -1,14 +1,14 @@
 ghost use Rattle.std.specs.Prelude.{◌≡◌, true, is_some};
 ghost use Rattle.rules.specs.History.{History, standing, has};
 ghost use Rattle.rules.specs.Trees.{items as beneath, works};
-ghost use Rattle.plan.specs.Sets.{members};
+ghost use Rattle.place_set.specs.Sets.{members};
 ghost use Rattle.book.specs.Keeps.{Keeps};
 ghost use Rattle.line_plan.specs.Items.{listed, state_of};
 ghost use Rattle.line_plan.specs.Beneath.{stands_and, ItemsBeneath};
 
 use crate::item_list::{ItemList, TypedItem};
 use book::book::Book;
-use plan::place_set::PlaceSet;
+use place_set::PlaceSet;
 use rules::kind::Kind;
 use rules::line::Part;
 use rules::part_number::PartNumber;

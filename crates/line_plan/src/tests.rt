@@ -1,7 +1,7 @@
 use crate::LinePlan;
 use book::book::Book;
+use place_set::PlaceSet;
 use plan::Plan;
-use plan::place_set::PlaceSet;
 use rules::item_type::ItemType;
 use rules::kind::Kind;
 use rules::part_number::PartNumber;

@@ -1,6 +1,7 @@
-pub mod Sets
 pub mod Plans
 pub mod Paths
+pub mod LinePlans
+pub mod Lockouts
+pub mod Piles
 pub mod PathsLemmas
 pub mod Deciding
-pub mod LinePlans

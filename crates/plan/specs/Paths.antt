@@ -5,8 +5,8 @@ use Rattle.rules.specs.declared.refusal.Refusal.TheVariants.{UnknownType, NoPath
 use Rattle.rules.specs.Rules.{Rule, ◌when◌}
 use Rattle.rules.specs.Trees.{State}
 use Rattle.rules.specs.Types.{type_numbered}
-use Rattle.plan.specs.declared.place_set.PlaceSet.{PlaceSet}
-use Rattle.plan.specs.Sets.{members}
+use Rattle.place_set.specs.declared.PlaceSet.{PlaceSet}
+use Rattle.place_set.specs.Sets.{members}
 use Rattle.plan.specs.Plans.{Structure}
 
 -- the type at the place i, where a place's number is 0 if it is empty

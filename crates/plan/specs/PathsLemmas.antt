@@ -7,8 +7,8 @@ use Rattle.rules.specs.declared.refusal.Refusal.{Refusal}
 use Rattle.rules.specs.Rules.{Allowed, Refused}
 use Rattle.rules.specs.Trees.{State}
 use Rattle.rules.specs.Types.{type_numbered}
-use Rattle.plan.specs.declared.place_set.PlaceSet.{PlaceSet}
-use Rattle.plan.specs.Sets.{members, less, Within}
+use Rattle.place_set.specs.declared.PlaceSet.{PlaceSet}
+use Rattle.place_set.specs.Sets.{members, less, Within}
 use Rattle.plan.specs.Plans.{Agree, LawfulPlan}
 use Rattle.plan.specs.Paths.{type_at, all_below, covers, some_path, plan_of_paths, all_filled, path_rules, each_path}
 use Rattle.plan.specs.Deciding.{allowed_append, refused_first, refused_after}

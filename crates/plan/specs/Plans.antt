@@ -1,11 +1,9 @@
 -- What a plan means, and the laws that every plan keeps.
-use Rattle.std.specs.Prelude.{◌≡◌, ℕ, ◌<◌, ◌≤◌, Bool, true, false, not, List, [], ◌∷◌, None, Option, ◌≢◌}
+use Rattle.std.specs.Prelude.{◌≡◌, ℕ, ◌≤◌, Bool, true, false, not, None, Option, ◌≢◌}
 use Rattle.rules.specs.declared.item_type.ItemType.{ItemType}
-use Rattle.rules.specs.declared.refusal.Refusal.TheVariants.{NoSuchPlace}
-use Rattle.rules.specs.Rules.{Rule, ◌when◌}
 use Rattle.rules.specs.Trees.{State}
 use Rattle.sums.specs.States.{put}
-use Rattle.plan.specs.Sets.{Within}
+use Rattle.place_set.specs.Sets.{Within}
 
 -- a plan: the type of each place, or none for an empty one, and the structure function, which says
 -- of each state whether the plan works in it
@@ -34,7 +32,3 @@ turned_over s i = not (s i)
 -- works where p does not work with every place turned over
 abbrev pub mirrored : Structure → Structure
 mirrored p = record { types = p.types; works = λ s. not (p.works (turned_over s)) }
-
--- why a place cannot be locked out
-abbrev pub lockout_rules : ℕ → List Rule
-lockout_rules i = NoSuchPlace when (15 < i) ∷ []

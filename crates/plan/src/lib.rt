@@ -3,10 +3,9 @@
 pub mod lockout;
 pub mod mirror;
 pub mod path_list;
-pub mod place_set;
 
 ghost use Rattle.std.specs.Prelude.{◌≡◌};
-ghost use Rattle.plan.specs.Sets.{members};
+ghost use Rattle.place_set.specs.Sets.{members};
 ghost use Rattle.plan.specs.Plans.{Structure, LawfulPlan};
 
 use place_set::PlaceSet;

@@ -1,10 +1,10 @@
 ghost use Rattle.std.specs.Prelude.{◌≡◌, ◌<◌};
-ghost use Rattle.rules.specs.Rules.{Decided};
-ghost use Rattle.plan.specs.Plans.{locked_out, lockout_rules};
+ghost use Rattle.plan.specs.Lockouts.{LockoutRuled};
+ghost use Rattle.plan.specs.Plans.{locked_out};
 ghost use Rattle.std.proofs.Common.{rules};
 
 use crate::Plan;
-use crate::place_set::PlaceSet;
+use place_set::PlaceSet;
 use rules::item_type::ItemType;
 use rules::refusal::Refusal;
 
@@ -16,7 +16,7 @@ pub struct LockedPlace {
 
 impl LockedPlace {
     pub fn new(place: u8) -> Result<LockedPlace, Refusal>
-        ensures { Decided (lockout_rules place) (λ l. l.place ≡ place) result }
+        ensures { LockoutRuled place result }
     {
         if place > 15 {
             return Err(Refusal::NoSuchPlace);

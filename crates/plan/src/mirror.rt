@@ -3,7 +3,7 @@ ghost use Rattle.plan.specs.Plans.{mirrored};
 ghost use Rattle.std.proofs.Common.{rules};
 
 use crate::Plan;
-use crate::place_set::PlaceSet;
+use place_set::PlaceSet;
 use rules::item_type::ItemType;
 
 // A plan that works where the plan below does not work with every place turned over.

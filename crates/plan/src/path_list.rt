@@ -4,7 +4,7 @@ mod working;
 ghost use Rattle.std.specs.Prelude.{◌≡◌, true, length};
 ghost use Rattle.plan.specs.Paths.{all_filled};
 
-use crate::place_set::PlaceSet;
+use place_set::PlaceSet;
 
 // A plan by paths: it works if some path has all its places working. A place's number is its type,
 // or 0 if it is empty. There are 1 to 64 paths, and each names a place, and no empty one.

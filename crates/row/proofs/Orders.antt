@@ -7,13 +7,14 @@ use Rattle.rules.specs.declared.item_type.ItemType.TheVariants.{One, Two, Three}
 use Rattle.rules.specs.History.{History, standing}
 use Rattle.rules.specs.Ruled.{Lawful}
 use Rattle.rules.specs.Trees.{items, tree_of, type_in}
+use Rattle.sums.specs.ByType.{is_type}
 use Rattle.sums.specs.Sums.{working_sum}
 use Rattle.cells.specs.Cells.{cell}
 use Rattle.cells.specs.declared.table.CellTable.{CellTable}
 use Rattle.signature.specs.Signature.{signature}
 use Rattle.plan.specs.Plans.{Structure}
 use Rattle.plan.specs.LinePlans.{plan_of_line}
-use Rattle.count.specs.Counts.{is_type, places_of, working_states}
+use Rattle.count.specs.Counts.{places_of, working_states}
 use Rattle.count.specs.Laws.{LongCounted}
 use Rattle.count.proofs.Counting.{few_from}
 use Rattle.agreement.specs.Agreement.{WaysAgree}

@@ -13,8 +13,8 @@ use Rattle.rules.specs.Ruled.{Lawful}
 use Rattle.rules.specs.Trees.{Tree, item, block, items, tree_of, type_at, type_in}
 use Rattle.sums.specs.Members.{◌∈◌}
 use Rattle.sums.proofs.Forest.{tree_item, tree_block}
-use Rattle.plan.specs.Sets.{count}
-use Rattle.count.specs.Counts.{is_type}
+use Rattle.sums.specs.States.{count}
+use Rattle.sums.specs.ByType.{is_type}
 use Rattle.row.specs.Rows.{Mixed}
 use Rattle.row.specs.Steps.{AllOfType, OnlyType, common_type}
 

@@ -8,11 +8,11 @@ use Rattle.rules.specs.Rules.{Rule, ◌when◌, Decided}
 use Rattle.rules.specs.Ruled.{naming}
 use Rattle.rules.specs.Trees.{items, tree_of, type_in}
 use Rattle.sums.specs.Members.{◌∈◌}
+use Rattle.sums.specs.ByType.{is_type}
 use Rattle.sums.specs.Sums.{working_sum}
 use Rattle.cells.specs.Cells.{cell}
 use Rattle.cells.specs.declared.table.CellTable.{CellTable}
 use Rattle.signature.specs.Signature.{signature}
-use Rattle.count.specs.Counts.{is_type}
 use Rattle.book.specs.declared.book.Book.{Book}
 use Rattle.book.specs.Keeps.{Keeps}
 use Rattle.survey.specs.declared.bench.Sums.{Sums}

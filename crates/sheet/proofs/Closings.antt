@@ -6,8 +6,8 @@ use Rattle.std.specs.Option.{option_map}
 use Rattle.sheet.specs.declared.fault.Fault.{Fault}
 use Rattle.rules.specs.declared.refusal.Refusal.TheVariants.{SheetTooLong, NoClosingLine, WrongLineCount}
 use Rattle.sheet.specs.declared.check.Closing.{Closing}
-use Rattle.sheet.specs.Texts.{Line, longer, lines_in, numbered, lines_of, last_or, but_last, ended}
-use Rattle.sheet.specs.Readings.{closing_of}
+use Rattle.text.specs.Texts.{Line, longer, lines_in, numbered, lines_of, last_or, but_last, ended}
+use Rattle.text.specs.Readings.{closing_of}
 use Rattle.sheet.specs.Faults.{fault_of}
 use Rattle.sheet.specs.Checks.{Checked, closed_at, closed, above_last, counted, check_of}
 use Rattle.sheet.specs.Laws.{Miscounts, check_rules, refusal_of}

@@ -1,7 +1,1 @@
-pub mod Finding
-pub mod Decimals
-pub mod Cutting
 pub mod Closings
-pub mod Numerals
-pub mod Writing
-pub mod Places

@@ -10,8 +10,8 @@ use Rattle.book.specs.declared.book.Book.{Book}
 use Rattle.book.specs.Keeps.{Keeps}
 use Rattle.book.specs.Snapshots.{Same}
 use Rattle.sheet.specs.declared.fault.Fault.{Fault}
-use Rattle.sheet.specs.Texts.{Line}
-use Rattle.sheet.specs.Readings.{change_of}
+use Rattle.text.specs.Texts.{Line}
+use Rattle.text.specs.Readings.{change_of}
 use Rattle.sheet.specs.Faults.{fault_of}
 use Rattle.sheet.specs.Checks.{Checked, check_of}
 

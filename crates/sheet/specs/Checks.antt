@@ -5,8 +5,8 @@ use Rattle.rules.specs.declared.refusal.Refusal.TheVariants.{SheetTooLong, NoClo
 use Rattle.sheet.specs.declared.fault.Fault.{Fault}
 use Rattle.sheet.specs.declared.check.CheckedSheet.{CheckedSheet}
 use Rattle.sheet.specs.declared.check.Closing.{Closing}
-use Rattle.sheet.specs.Texts.{Line, lines_of, last_or, but_last, ended}
-use Rattle.sheet.specs.Readings.{closing_of}
+use Rattle.text.specs.Texts.{Line, lines_of, last_or, but_last, ended}
+use Rattle.text.specs.Readings.{closing_of}
 use Rattle.sheet.specs.Faults.{fault_of}
 
 -- a checked sheet without its loan: the lines above the closing line, and that line's numbers and place

@@ -1,10 +1,4 @@
-pub mod Texts
-pub mod Numbers
-pub mod Tokens
-pub mod Readings
-pub mod Cursors
 pub mod Faults
 pub mod Checks
 pub mod Applying
-pub mod Written
 pub mod Laws

@@ -2,12 +2,12 @@ mod applying;
 
 ghost use Rattle.std.specs.Prelude.{◌≡◌, ◌≤◌, length, IfSome, Some};
 ghost use Rattle.sheet.specs.Checks.{check_of, check_seen, closed, closed_at};
-ghost use Rattle.sheet.specs.Cursors.{line_seen, LineFits};
+ghost use Rattle.text.specs.Cursors.{line_seen, LineFits};
 
-use crate::bytes::is_ended;
 use crate::fault::Fault;
-use crate::lines::{SheetLine, last_line};
 use rules::refusal::Refusal;
+use text::bytes::is_ended;
+use text::lines::{SheetLine, last_line};
 
 // The most bytes that a sheet may have.
 const LIMIT: usize = 1024;

@@ -1,20 +1,20 @@
 -- The signature's sums over states count states: each state's weight is a product of variables.
-use Rattle.std.proofs.Common.{◌≡◌, ℕ, suc, ◌+◌, ◌-◌, ◌*◌, ◌%◌, ◌<◌, ◌≤◌, Bool, true, false, cond, not, ◌&&◌, eqb, ◌⊎◌, List, [], ◌∷◌, length, Some, None, Option, sym, refl, ap, ◌∙◌, ap₂, inl, inr, one-mul, zero-mul, arith}
+use Rattle.std.proofs.Common.{◌≡◌, ℕ, suc, ◌+◌, ◌-◌, ◌*◌, ◌%◌, ◌<◌, ◌≤◌, Bool, true, false, cond, not, ◌&&◌, eqb, ◌⊎◌, List, [], ◌∷◌, Some, None, Option, sym, refl, ap, ◌∙◌, ap₂, inl, inr, one-mul, zero-add, zero-mul, arith}
 use mathlib.Core.Path.{fun_ext}
 use Rattle.std.proofs.lemmas.Bool.{cases_lt}
 use Rattle.std.proofs.lemmas.Bool.Decides.{nat_tests}
 use Rattle.rules.specs.declared.item_type.ItemType.{ItemType}
 use Rattle.rules.specs.declared.item_type.ItemType.TheVariants.{One, Two, Three}
 use Rattle.rules.specs.Trees.{State, items, works}
-use Rattle.sums.specs.States.{all_failed, states, total, keep}
+use Rattle.sums.specs.States.{all_failed, states, total, keep, count, states_passing}
+use Rattle.sums.specs.ByType.{is_type, working_of, numbers_work}
 use Rattle.sums.specs.Sums.{figure, weight, sum_over}
-use Rattle.tally.specs.Counts.{states_passing}
 use Rattle.cells.specs.declared.table.CellTable.{CellTable}
 use Rattle.cells.specs.Tables.{table_of, at}
 use Rattle.cells.proofs.Tables.{cell_of}
 use Rattle.signature.specs.Polynomials.{Polynomial, sum_to, one_at, sum_of, product_of, polynomials}
 use Rattle.signature.specs.Signature.{signature}
-use Rattle.signature.specs.Counted.{is_type, working_of, has, SignatureStands}
+use Rattle.signature.specs.Counted.{SignatureStands}
 use Rattle.signature.proofs.Sums.{all_zero, only_at, sum_whole}
 use Rattle.signature.specs.Laws.{table_of_sum, table_of_product}
 
@@ -80,14 +80,7 @@ figure_one (Some One) false = refl
 figure_one (Some Two) false = refl
 figure_one (Some Three) false = refl
 
-length_cond : {A : Type 0} (b : Bool) (x : A) (xs : List A) → cond b 1 0 + length xs ≡ length (cond b (x ∷ xs) xs)
-length_cond true x xs = omega arith
-length_cond false x xs = omega arith
-
 module _ (types : ℕ → Option ItemType) where
-  working_more : (t : ItemType) (i : ℕ) (is : List ℕ) (s : State) → one_if t (types i) (s i) + working_of types is t s ≡ working_of types (i ∷ is) t s
-  working_more t i is s = length_cond (is_type t (types i) && s i) i (keep (λ j. is_type t (types j) && s j) is)
-
   -- a state's weight has 1 at the numbers of working items
   weight_one : (is : List ℕ) (s : State) → weight polynomials types is s ≡ one_at (working_of types is One s) (working_of types is Two s) (working_of types is Three s)
   weight_one [] s = refl
@@ -95,20 +88,19 @@ module _ (types : ℕ → Option ItemType) where
       ap₂ product_of (figure_one (types i) (s i)) (weight_one is s)
       ∙ fun_ext (λ a. fun_ext (λ b. fun_ext (λ c.
       one_times_one (one_if One (types i) (s i)) (one_if Two (types i) (s i)) (one_if Three (types i) (s i))
-      (working_of types is One s) (working_of types is Two s) (working_of types is Three s) a b c
-      ∙ rw (working_more One i is s, working_more Two i is s, working_more Three i is s) refl)))
+      (working_of types is One s) (working_of types is Two s) (working_of types is Three s) a b c)))
 
   -- a sum of weights counts states
   total_counts : (is : List ℕ) (p : State → Bool) (a b c : ℕ) (ss : List State)
-      → total polynomials.none polynomials.plus (weight polynomials types is) (keep p ss) a b c ≡ length (keep (λ s. p s && has types is a b c s) ss)
+      → total polynomials.none polynomials.plus (weight polynomials types is) (keep p ss) a b c ≡ count (λ s. p s && numbers_work types is a b c s) ss
   total_counts is p a b c [] = refl
   total_counts is p a b c (s ∷ ss) = by (p s) (total_counts is p a b c ss)
     where
-      by : (v : Bool) → total polynomials.none polynomials.plus (weight polynomials types is) (keep p ss) a b c ≡ length (keep (λ s. p s && has types is a b c s) ss)
+      by : (v : Bool) → total polynomials.none polynomials.plus (weight polynomials types is) (keep p ss) a b c ≡ count (λ s. p s && numbers_work types is a b c s) ss
           → total polynomials.none polynomials.plus (weight polynomials types is) (cond v (s ∷ keep p ss) (keep p ss)) a b c
-          ≡ length (cond (v && has types is a b c s) (s ∷ keep (λ s. p s && has types is a b c s) ss) (keep (λ s. p s && has types is a b c s) ss))
-      by true rest = ap₂ ◌+◌ (ap (λ f. f a b c) (weight_one is s)) rest ∙ length_cond (has types is a b c s) s _
-      by false rest = rest
+          ≡ cond (v && numbers_work types is a b c s) 1 0 + count (λ s. p s && numbers_work types is a b c s) ss
+      by true rest = ap₂ ◌+◌ (ap (λ f. f a b c) (weight_one is s)) rest
+      by false rest = rest ∙ sym (zero-add _)
 
 -- tables of sums are sums of tables
 total_table : {A : Type 0} (start : Polynomial) (op : Polynomial → Polynomial → Polynomial) (op' : CellTable → CellTable → CellTable)
@@ -128,7 +120,7 @@ module _ (types : ℕ → Option ItemType) (is : List ℕ) where
 
   -- a sum over states, cell by cell
   pub sum_counts : (p : State → Bool) (a b c : ℕ) → a < 8 → b < 8 → c < 8
-      → at (sum_over signature types is p) a b c ≡ states_passing is (λ s. p s && has types is a b c s) % 65536
+      → at (sum_over signature types is p) a b c ≡ states_passing is (λ s. p s && numbers_work types is a b c s) % 65536
   sum_counts p a b c al bl cl =
       ap (λ x. at x a b c) (total_table polynomials.none sum_of signature.plus table_of_sum _ (weight polynomials types is) weight_table (keep p (states is all_failed)))
       ∙ cell_of (sum_over polynomials types is p) a b c al bl cl

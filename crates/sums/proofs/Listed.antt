@@ -1,13 +1,13 @@
 -- Every state of some items is listed, and a line depends on the items beneath it alone.
-use Rattle.std.proofs.Common.{◌≡◌, ℕ, ◌^◌, Bool, true, false, cond, ◌&&◌, ◌||◌, eqb, ◌⊎◌, List, [], ◌∷◌, length, sym, refl, ap, ◌∙◌, ap₂, inl, inr, arith, length-append}
+use Rattle.std.proofs.Common.{◌≡◌, ℕ, ◌+◌, ◌^◌, Bool, true, false, cond, ◌&&◌, ◌||◌, eqb, ◌⊎◌, List, [], ◌∷◌, length, sym, refl, ap, ◌∙◌, ap₂, inl, inr, ⊎_elim, arith, length-append}
 use mathlib.Core.List.Memᴰ
 use mathlib.Core.List.{Memᴰ}
 use native.Mathlib.Nat.{pow-succ'}
-use Rattle.std.proofs.lemmas.Bool.{eqb-true, eqb-false}
+use Rattle.std.proofs.lemmas.Bool.{eqb-true, eqb-false, and_parts, and_from, or_cases, or_left, or_right}
 use Rattle.rules.specs.declared.kind.Kind.TheVariants.{Series, Parallel}
 use Rattle.rules.specs.Kinds.{block_works}
 use Rattle.rules.specs.Trees.{State, Tree, item, block, items, works}
-use Rattle.sums.specs.States.{all_failed, put, states, total}
+use Rattle.sums.specs.States.{all_failed, put, states, total, keep, count}
 use Rattle.sums.specs.Members.{◌∈◌}
 
 -- two states agree on the items
@@ -49,6 +49,18 @@ works_agree (block k x y) s t same =
     (works_agree x s t (λ i m. same i (Memᴰ.append_left (items y) m)))
     (works_agree y s t (λ i m. same i (Memᴰ.append_right (items x) m)))
 
+-- one more working item never stops a line
+pub works_more : (x : Tree) (s t : State) → ((i : ℕ) → s i ≡ true → t i ≡ true) → works x s ≡ true → works x t ≡ true
+works_more (item n) s t more on = more n on
+works_more (block Series x y) s t more on =
+    let parts = and_parts (works x s) (works y s) on in
+    and_from (works x t) (works y t) (works_more x s t more parts.0) (works_more y s t more parts.1)
+works_more (block Parallel x y) s t more on =
+    ⊎_elim
+    (λ e. or_left (works x t) (works y t) (works_more x s t more e))
+    (λ e. or_right (works x t) (works y t) (works_more y s t more e))
+    (or_cases (works x s) (works y s) on)
+
 -- no line works if no item does
 pub nothing_works : (x : Tree) → works x all_failed ≡ false
 nothing_works (item n) = refl
@@ -61,6 +73,14 @@ total_same start op f g [] same = refl
 total_same start op f g (x ∷ xs) same = ap₂ op (same x (Memᴰ.head refl)) (total_same start op f g xs (λ y m. same y (Memᴰ.tail m)))
 
 -- n items have 2^n states
+pub count_keep : {A : Type 0} (p : A → Bool) (xs : List A) → count p xs ≡ length (keep p xs)
+count_keep p [] = refl
+count_keep p (x ∷ xs) = by (p x) (count_keep p xs)
+  where
+    by : (v : Bool) → count p xs ≡ length (keep p xs) → cond v 1 0 + count p xs ≡ length (cond v (x ∷ keep p xs) (keep p xs))
+    by true e = omega arith
+    by false e = omega arith
+
 pub states_length : (is : List ℕ) (s : State) → length (states is s) ≡ 2 ^ length is
 states_length [] s = refl
 states_length (i ∷ is) s =

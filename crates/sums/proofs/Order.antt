@@ -1,5 +1,5 @@
 -- The order in which items are listed does not matter, nor whether they go by number or by place.
-use Rattle.std.proofs.Common.{◌≡◌, ℕ, zero, suc, Bool, true, false, cond, not, eqb, List, [], ◌∷◌, map, length, get_or, Option, sym, refl, ap, ◌∙◌, ap₂, arith}
+use Rattle.std.proofs.Common.{◌≡◌, ℕ, zero, suc, ◌+◌, ◌<◌, Bool, true, false, cond, not, eqb, List, [], ◌∷◌, map, length, get_or, Option, sym, refl, ap, ◌∙◌, ap₂, arith}
 use mathlib.Core.Path.{fun_ext}
 use mathlib.Core.List.Memᴰ
 use native.Mathlib.Nat.{suc_inj}
@@ -7,10 +7,10 @@ use Rattle.std.proofs.lemmas.Bool.{eqb-true, eqb-false, eq-eqb, ne_eqb, cond-tru
 use Rattle.rules.specs.declared.item_type.ItemType.{ItemType}
 use Rattle.rules.specs.Trees.{State, items, works}
 use Rattle.sums.specs.Semiring.{Meaning, Semiring}
-use Rattle.sums.specs.States.{all_failed, put, states, total}
+use Rattle.sums.specs.States.{all_failed, put, states, total, range, count}
 use Rattle.sums.specs.Sums.{figure, weight, sum_over}
 use Rattle.sums.specs.Members.{◌∈◌, Alike, Distinct}
-use Rattle.sums.specs.Order.{place_of, range, placed, types_at, OrderStands}
+use Rattle.sums.specs.Order.{place_of, placed, types_at, OrderStands}
 use Rattle.sums.proofs.Members.{once_distinct, without, without_distinct, rest_alike}
 use Rattle.sums.proofs.States.{over, put_swap, plus_medial, times_left, total_keep, total_states}
 
@@ -27,6 +27,22 @@ module _ {F : Type 0} (start : F) (op : F → F → F) (left : (x y z : F) → o
   total_order (i ∷ a) b da db same f =
       let m : i ∈ b = (same i).0 (Memᴰ.head refl) in
       ap (op (f i)) (total_order a (without m) da.1 (without_distinct m db) (rest_alike i a b da db same m) f) ∙ sym (total_front m f)
+
+-- a count is a sum of ones, so lists that are alike have equal counts and lengths
+count_total : (q : ℕ → Bool) (is : List ℕ) → count q is ≡ total 0 ◌+◌ (λ i. cond (q i) 1 0) is
+count_total q [] = refl
+count_total q (i ∷ is) = ap (λ n. cond (q i) 1 0 + n) (count_total q is)
+
+pub count_order : (a b : List ℕ) → Distinct a → Distinct b → Alike a b → (q : ℕ → Bool) → count q a ≡ count q b
+count_order a b da db same q =
+    count_total q a ∙ total_order 0 ◌+◌ (λ x y z. omega arith) a b da db same (λ i. cond (q i) 1 0) ∙ sym (count_total q b)
+
+count_all : (is : List ℕ) → count (λ _. true) is ≡ length is
+count_all [] = refl
+count_all (i ∷ is) = omega (arith, count_all is)
+
+pub length_order : (a b : List ℕ) → Distinct a → Distinct b → Alike a b → length a ≡ length b
+length_order a b da db same = sym (count_all a) ∙ count_order a b da db same (λ _. true) ∙ count_all b
 
 -- where a number stands in a list
 pub place_first : (n : ℕ) (ns : List ℕ) → place_of (n ∷ ns) n ≡ zero
@@ -56,6 +72,12 @@ place_getD (n ∷ ns) i m = at (eqb n i) refl m (place_getD ns i)
     at true e m more = eqb-true n i e
     at false e (Memᴰ.head d) more = absurd (eqb-false n i e (sym d))
     at false e (Memᴰ.tail m) more = more m
+
+-- the number at a place is in the list
+pub getD_in : (ns : List ℕ) (p : ℕ) → p < length ns → get_or ns p 0 ∈ ns
+getD_in [] p lt = absurd (omega arith)
+getD_in (n ∷ ns) zero lt = Memᴰ.head refl
+getD_in (n ∷ ns) (suc p) lt = Memᴰ.tail (getD_in ns p (omega arith))
 
 -- the places of distinct numbers are 0, 1, and so on
 places_range : (ns : List ℕ) → Distinct ns → map (place_of ns) ns ≡ range 0 (length ns)

@@ -2,6 +2,7 @@ pub mod Semiring
 pub mod States
 pub mod Sums
 pub mod Members
+pub mod ByType
 pub mod Blocks
 pub mod Order
 pub mod Forest

@@ -4,7 +4,7 @@ use Rattle.rules.specs.declared.item_type.ItemType.{ItemType}
 use Rattle.rules.specs.History.{has, listing}
 use Rattle.rules.specs.Trees.{State, Tree, items, works}
 use Rattle.sums.specs.Semiring.{Meaning}
-use Rattle.sums.specs.States.{all_failed, states, total}
+use Rattle.sums.specs.States.{all_failed, states, total, range}
 use Rattle.sums.specs.Sums.{sum_over, working_sum, failing_sum}
 use Rattle.sums.specs.Members.{◌∈◌, Alike, Distinct, Rising, Once}
 
@@ -22,11 +22,6 @@ pub record RisingStands (m : ℕ) (is : List ℕ) : Type 0 where
 abbrev pub place_of : List ℕ → ℕ → ℕ
 place_of [] i = i
 place_of (n ∷ ns) i = cond (n == i) zero (suc (place_of ns i))
-
--- n, n + 1, and so on, m numbers
-abbrev pub range : ℕ → ℕ → List ℕ
-range n zero = []
-range n (suc m) = n ∷ range (suc n) m
 
 -- the state of the items ns in which each is as q has it at its place
 abbrev pub placed : List ℕ → State → State

@@ -6,7 +6,8 @@ use Rattle.rules.specs.Trees.{items, works, tree_of, type_in}
 use Rattle.sums.specs.Semiring.{Meaning}
 use Rattle.sums.specs.Sums.{sum_over, working_sum, failing_sum}
 use Rattle.sums.specs.Members.{Alike, Rising}
-use Rattle.sums.specs.Order.{rising_upto, range, placed, types_at}
+use Rattle.sums.specs.States.{range}
+use Rattle.sums.specs.Order.{rising_upto, placed, types_at}
 
 -- the items beneath the line n, in rising number
 abbrev pub rising_in : History → ℕ → List ℕ

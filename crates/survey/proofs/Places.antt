@@ -109,7 +109,7 @@ module _ {F : Type 0} (m : Meaning F) (laws : Semiring m) where
       (works ∙ ap₂ (λ (p q : Sums F). g p.working p.failing q.working q.failing) ex ey ∙ sym (ap (working_sum m (type_in h)) t ∙ s.working (type_in h) k (tree_of h a.value) (tree_of h b.value) once))
       (fails ∙ ap₂ (λ (p q : Sums F). f p.working p.failing q.working q.failing) ex ey ∙ sym (ap (failing_sum m (type_in h)) t ∙ s.failing (type_in h) k (tree_of h a.value) (tree_of h b.value) once))
 
-sum_at : {F : Type 0} (m : Meaning F) (h : History) (i : ℕ) (d : Sums F) → i < length (lines_of h) → get_or (all_sums m h) i d ≡ sums_of m h (get_or (lines_of h) i no_line).number.value
+pub sum_at : {F : Type 0} (m : Meaning F) (h : History) (i : ℕ) (d : Sums F) → i < length (lines_of h) → get_or (all_sums m h) i d ≡ sums_of m h (get_or (lines_of h) i no_line).number.value
 sum_at m h i d lt = get_or-map (λ (l : Line). sums_of m h l.number.value) (lines_of h) i no_line d lt
 
 -- the places up to a line's own hold the sums of the lines with lower numbers

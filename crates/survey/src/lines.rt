@@ -4,7 +4,7 @@ ghost use Rattle.book.specs.Keeps.{Keeps};
 ghost use Rattle.survey.specs.Surveys.{sums_of, HoldsBelow};
 
 use crate::bench::{Bench, Sums};
-use crate::joining::joined;
+use crate::joining::{item_sums, joined};
 use book::book::Book;
 use rules::line::{Line, Part};
 use rules::part_number::PartNumber;
@@ -22,10 +22,7 @@ pub fn line_sums<T: Tally>(
     ensures { (h : History) → Keeps h book.now → result ≡ sums_of (T.Tally.meaning tally.now) h line.number.value }
 {
     match line.part {
-        Part::Item(item_type) => Sums {
-            working: tally.working(item_type),
-            failing: tally.failed(item_type),
-        },
+        Part::Item(item_type) => item_sums(tally, item_type),
         Part::Block(kind, a, b) => {
             let place_a = place_of(book, a);
             let place_b = place_of(book, b);

@@ -1,11 +1,11 @@
 -- Under count, a sum over states is their number.
-use Rattle.std.proofs.Common.{◌≡◌, ℕ, ◌≤◌, Bool, true, false, cond, not, List, [], ◌∷◌, length, Some, None, Option, refl, ap, ◌∙◌, ap₂, mod-eq_of_lt, arith, pow_mono}
+use Rattle.std.proofs.Common.{◌≡◌, ℕ, ◌≤◌, Bool, true, false, cond, not, List, [], ◌∷◌, length, Some, None, Option, sym, refl, ap, ◌∙◌, ap₂, mod-eq_of_lt, arith, pow_mono}
 use Rattle.rules.specs.declared.item_type.ItemType.{ItemType}
 use Rattle.rules.specs.Trees.{State, items, works}
-use Rattle.sums.specs.States.{all_failed, states, total, keep}
+use Rattle.sums.specs.States.{all_failed, states, total, keep, states_passing}
 use Rattle.sums.specs.Sums.{figure, weight, sum_over}
-use Rattle.sums.proofs.Listed.{states_length}
-use Rattle.tally.specs.Counts.{counted, counts, states_passing, CountsStand}
+use Rattle.sums.proofs.Listed.{count_keep, states_length}
+use Rattle.tally.specs.Counts.{counted, counts, CountsStand}
 use Rattle.tally.specs.Wrapping.{same_count}
 
 module _ (types : ℕ → Option ItemType) where
@@ -32,8 +32,9 @@ keep_length p (x ∷ xs) = by (p x) (keep_length p xs)
 
 sum_counts : (types : ℕ → Option ItemType) (is : List ℕ) → length is ≤ 16 → (p : State → Bool) → (sum_over counts types is p).value ≡ states_passing is p
 sum_counts types is few p =
-    let kept : states_passing is p ≤ 65536 = omega (arith, keep_length p (states is all_failed), states_length is all_failed, pow_mono few) in
-    ap (λ x. x.value) (total_length types is (keep p (states is all_failed))) ∙ mod-eq_of_lt (omega arith)
+    let passing = count_keep p (states is all_failed) in
+    let kept : length (keep p (states is all_failed)) ≤ 65536 = omega (arith, keep_length p (states is all_failed), states_length is all_failed, pow_mono few) in
+    ap (λ x. x.value) (total_length types is (keep p (states is all_failed))) ∙ mod-eq_of_lt (omega arith) ∙ sym passing
 
 pub counts_stand_lem : CountsStand
 counts_stand_lem types x few = (sum_counts types (items x) few (works x), sum_counts types (items x) few (λ s. not (works x s)))

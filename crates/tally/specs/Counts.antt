@@ -1,10 +1,10 @@
 -- Counts of states, modulo 2^32.
-use Rattle.std.specs.Prelude.{◌≡◌, ℕ, ◌+◌, ◌*◌, ◌%◌, ◌≤◌, Bool, not, List, length, Option}
+use Rattle.std.specs.Prelude.{◌≡◌, ℕ, ◌+◌, ◌*◌, ◌%◌, ◌≤◌, not, length, Option}
 use Rattle.std.proofs.Common.{mod-lt, lit<}
 use Rattle.rules.specs.declared.item_type.ItemType.{ItemType}
-use Rattle.rules.specs.Trees.{State, Tree, items, works}
+use Rattle.rules.specs.Trees.{Tree, items, works}
 use Rattle.sums.specs.Semiring.{Meaning}
-use Rattle.sums.specs.States.{all_failed, states, keep}
+use Rattle.sums.specs.States.{states_passing}
 use Rattle.sums.specs.Sums.{working_sum, failing_sum}
 use Rattle.tally.specs.declared.state_count.StateCount.{StateCount}
 
@@ -22,10 +22,6 @@ counts = record {
   working = λ t. counted 1;
   failed = λ t. counted 1;
 }
-
--- how many states of the items pass the test
-abbrev pub states_passing : List ℕ → (State → Bool) → ℕ
-states_passing is p = length (keep p (states is all_failed))
 
 -- under count the sums of a line over at most 16 items are the numbers of states in which it works,
 -- and in which it does not

@@ -4,6 +4,7 @@ use crate::piles::{show_paths, show_plan};
 use account::account;
 use book::book::Book;
 use line_plan::LinePlan;
+use plan::path_list::PathList;
 use rules::kind::Kind;
 use rules::line::{Line, Part};
 use rules::part_number::PartNumber;
@@ -133,7 +134,7 @@ fn show_bounds<W: Write>(
 }
 
 fn show_account<W: Write>(book: &Book, out: &mut W) -> io::Result<()> {
-    let numbers = account::<Count>(book);
+    let numbers = account::<Count, PathList>(book);
     let (given, standing, withdrawn) = (numbers.given, numbers.standing, numbers.withdrawn);
     writeln!(
         out,

@@ -1,6 +1,6 @@
 use crate::hex::read_hex;
 use anyhow::anyhow;
-use plan::place_set::PlaceSet;
+use place_set::PlaceSet;
 use rules::kind::Kind;
 use rules::part_number::PartNumber;
 use std::alloc::Global;

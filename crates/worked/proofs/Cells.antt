@@ -1,19 +1,16 @@
 -- The cells of the examples, state by state.
-use Rattle.std.proofs.Common.{◌≡◌, ℕ, suc, ◌+◌, ◌*◌, ◌%◌, ◌≤◌, Bool, true, false, cond, ◌&&◌, List, [], ◌∷◌, length, sym, ap, ◌∙◌, arith, lit≤}
+use Rattle.std.proofs.Common.{◌≡◌, ℕ, suc, ◌+◌, ◌*◌, ◌%◌, ◌≤◌, Bool, true, false, cond, List, [], ◌∷◌, length, sym, ap, ◌∙◌, arith, lit≤}
 use Rattle.rules.specs.Rules.{Allowed}
-use Rattle.rules.specs.Trees.{State, items, works, tree_of, type_in}
-use Rattle.sums.specs.States.{all_failed, states}
+use Rattle.rules.specs.Trees.{tree_of, type_in}
+use Rattle.sums.specs.States.{count}
 use Rattle.cells.specs.Tables.{table_of}
 use Rattle.cells.proofs.Tables.{cell_of, same_cells}
 use Rattle.signature.specs.Polynomials.{one_at}
-use Rattle.signature.specs.Counted.{has}
 use Rattle.signature.specs.Signature.{signature}
 use Rattle.signature.proofs.Counted.{signature_stands_lem}
 use Rattle.plan.specs.Plans.{Structure, locked_out, mirrored}
-use Rattle.plan.specs.Sets.{count}
 use Rattle.plan.specs.LinePlans.{plan_of_line}
 use Rattle.count.specs.Counts.{places, is_of_type, count_rules}
-use Rattle.agreement.proofs.Bridge.{count_keep}
 use Rattle.survey.specs.Surveys.{sums_of}
 use Rattle.worked.specs.Worked.{HasCells, example, example_cells, example_plan}
 
@@ -63,8 +60,6 @@ lockout_counted = (taken (locked_out 2 example_plan) (lit≤ tt), λ i a b c. so
 -- under the signature
 pub table : (sums_of signature example 5).working ≡ table_of example_cells
 table = same_cells (sums_of signature example 5).working (table_of example_cells) (λ a b c al bl cl.
-    let x = tree_of example 5 in
-    let passes : State → Bool = λ s. works x s && has (type_in example) (items x) a b c s in
-    (signature_stands_lem (type_in example) x a b c al bl cl).0
-    ∙ ap (λ n. n % 65536) (sym (count_keep passes (states (items x) all_failed)) ∙ eight a b c)
+    (signature_stands_lem (type_in example) (tree_of example 5) a b c al bl cl).0
+    ∙ ap (λ n. n % 65536) (eight a b c)
     ∙ sym (cell_of example_cells a b c al bl cl))

@@ -2,10 +2,10 @@
 use Rattle.std.proofs.Common.{◌≡◌, ℕ, zero, suc, ◌^◌, ◌<◌, ◌≤◌, true, List, get_or, is_some, None, refl, ⊎_elim, arith, lit<, lit≤}
 use Rattle.std.proofs.lemmas.Bool.{true≢false, cases_lt, both_ways}
 use Rattle.rules.specs.Rules.{Allowed}
-use Rattle.plan.specs.declared.place_set.PlaceSet.{PlaceSet}
-use Rattle.plan.specs.Sets.{members}
+use Rattle.place_set.specs.declared.PlaceSet.{PlaceSet}
+use Rattle.place_set.specs.Sets.{members}
 use Rattle.plan.specs.Paths.{type_at, covers, path_list_rules}
-use Rattle.plan.proofs.Masks.{bit_above}
+use Rattle.place_set.proofs.Masks.{bit_above}
 use Rattle.plan.specs.PathsLemmas.{covers_at}
 use Rattle.worked.specs.Worked.{example_types, example_paths}
 use Rattle.worked.proofs.Zeros.{zeros}

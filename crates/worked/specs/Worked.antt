@@ -22,8 +22,9 @@ use Rattle.tally.specs.Losses.{CheapestLoss}
 use Rattle.cells.specs.Tables.{table_of}
 use Rattle.signature.specs.Polynomials.{Polynomial, one_at}
 use Rattle.signature.specs.Signature.{signature}
-use Rattle.plan.specs.declared.place_set.PlaceSet.{PlaceSet}
-use Rattle.plan.specs.Plans.{Structure, locked_out, mirrored, lockout_rules}
+use Rattle.place_set.specs.declared.PlaceSet.{PlaceSet}
+use Rattle.plan.specs.Lockouts.{lockout_rules}
+use Rattle.plan.specs.Plans.{Structure, locked_out, mirrored}
 use Rattle.plan.specs.Paths.{plan_of_paths, path_list_rules}
 use Rattle.plan.specs.LinePlans.{plan_of_line}
 use Rattle.count.specs.Counts.{working_states, count_rules}

@@ -8,7 +8,7 @@ returns g c =
     let plan = c.args.plan.now in
     let told = c.in_ok-places.ensures in
     record {
-      counted = (
+      answer = (
         told.0,
         long_counted (g.P.Plan.meaning plan) (g.met.P.Plan.lawful plan) told.0 c.new.result.cells
             (λ a b d la lb ld. ap (λ cells. cell cells a b d) c.new.ensures ∙ c.count_working_states.ensures a b d la lb ld),

@@ -1,6 +1,6 @@
 use Rattle.std.proofs.Common.{◌≡◌, ◌*◌, ap, ◌∙◌, ap₂, arith}
 use Rattle.rules.specs.declared.item_type.ItemType.TheVariants.{One, Two, Three}
-use Rattle.plan.specs.Sets.{size}
+use Rattle.place_set.specs.Sets.{size}
 use Rattle.cells.specs.Cells.{cell}
 use Rattle.count.specs.Counts.{places_of}
 use Rattle.count.specs.Laws.{Holds, choose, choices}
@@ -30,4 +30,4 @@ returns g c =
     let products : Holds c.new.result.cells (choices p) = λ a b d la lb ld.
     ap (λ cells. cell cells a b d) c.new.ensures ∙ c.count_choices.ensures a b d la lb ld
     ∙ ap₂ ◌*◌ (ap₂ ◌*◌ (ap (λ n. choose n a) one) (ap (λ n. choose n b) two)) (ap (λ n. choose n d) three) in
-    record { counted = (told.0, totalled p (few_from p told.0) c.new.result.cells products); kept = tt }
+    record { answer = (told.0, totalled p (few_from p told.0) c.new.result.cells products); kept = tt }

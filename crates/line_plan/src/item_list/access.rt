@@ -1,9 +1,9 @@
 ghost use Rattle.std.specs.Prelude.{◌≡◌, ◌<◌, [], ◌∷◌, ◌++◌, length};
-ghost use Rattle.plan.specs.Sets.{members};
+ghost use Rattle.place_set.specs.Sets.{members};
 ghost use Rattle.line_plan.specs.Items.{listed, types_of, state_of};
 
 use super::{ItemList, TypedItem};
-use plan::place_set::PlaceSet;
+use place_set::PlaceSet;
 use rules::item_type::ItemType;
 use rules::part_number::PartNumber;
 

@@ -3,7 +3,7 @@ ghost use Rattle.rules.specs.Rules.{Decided};
 ghost use Rattle.plan.specs.Paths.{type_rules, path_rules, each_path, path_list_rules};
 
 use super::PathList;
-use crate::place_set::PlaceSet;
+use place_set::PlaceSet;
 use rules::item_type::ItemType;
 use rules::refusal::Refusal;
 

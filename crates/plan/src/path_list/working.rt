@@ -1,11 +1,11 @@
 ghost use Rattle.std.specs.Prelude.{◌≡◌};
-ghost use Rattle.plan.specs.Sets.{members};
+ghost use Rattle.place_set.specs.Sets.{members};
 ghost use Rattle.plan.specs.Paths.{some_path, plan_of_paths};
 ghost use Rattle.plan.specs.PathsLemmas.{path_list_lawful};
 
 use super::PathList;
 use crate::Plan;
-use crate::place_set::PlaceSet;
+use place_set::PlaceSet;
 use rules::item_type::ItemType;
 
 // Whether some path has all its places working.

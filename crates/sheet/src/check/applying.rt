@@ -1,16 +1,16 @@
 ghost use Rattle.std.specs.Prelude.{◌≡◌, ◌^◌, ◌<◌, ◌∷◌, length, MatchResult};
 ghost use Rattle.rules.specs.History.{History};
 ghost use Rattle.book.specs.Keeps.{Keeps};
-ghost use Rattle.sheet.specs.Texts.{lines_of};
-ghost use Rattle.sheet.specs.Cursors.{line_seen, LineFits};
+ghost use Rattle.text.specs.Texts.{lines_of};
+ghost use Rattle.text.specs.Cursors.{line_seen, LineFits};
 ghost use Rattle.sheet.specs.Checks.{sheet_seen};
 ghost use Rattle.sheet.specs.Applying.{Applies, TakesLine, TakesLines};
 
 use super::CheckedSheet;
 use crate::fault::Fault;
-use crate::lines::{Lines, SheetLine};
 use book::book::Book;
 use rules::refusal::Refusal;
+use text::lines::{Lines, SheetLine};
 
 impl<'a> CheckedSheet<'a> {
     // Asks the book for the changes of the lines in turn, and answers how many they are. The first

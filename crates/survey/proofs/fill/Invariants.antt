@@ -6,7 +6,8 @@ use Rattle.survey.proofs.fill.Given as goal
 
 abbrev pub invariant-loop-place : goal.invariant-loop-place
 invariant-loop-place g l =
-    ((h : History) → Keeps h l.book → take l.place l.bench.places.now ≡ take l.place (all_sums (g.T.Tally.meaning l.tally) h))
+    ((h : History) → Keeps h l.book
+    → (take l.place l.bench.places.now ≡ take l.place (all_sums (g.T.Tally.meaning l.tally) h))
     × (drop l.place l.bench.places.now ≡ drop l.place l.initial.bench.places.now)
+    × (length l.bench.places.now ≡ length l.initial.bench.places.now))
     × (l.bench.places.ghost_name ≡ l.initial.bench.places.ghost_name)
-    × (length l.bench.places.now ≡ length l.initial.bench.places.now)

@@ -1,5 +1,5 @@
 use Rattle.std.proofs.Common.{◌≤◌, refl, ap, inl, arith}
-use Rattle.plan.specs.Sets.{size}
+use Rattle.place_set.specs.Sets.{size}
 use Rattle.rules.specs.declared.item_type.ItemType.{ItemType}
 use Rattle.rules.specs.declared.item_type.ItemType.TheVariants.{One, Two, Three}
 use Rattle.count.specs.Counts.{places_of}

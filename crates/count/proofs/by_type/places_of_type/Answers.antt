@@ -1,8 +1,9 @@
 use Rattle.std.proofs.Common.{◌≡◌, ltb, sym, ap, ◌∙◌, arith}
 use Rattle.std.proofs.lemmas.Bool.{and_left, le-ltb}
-use Rattle.plan.specs.Sets.{bit, members}
-use Rattle.plan.proofs.Masks.{bit_none}
-use Rattle.count.specs.Counts.{is_type, is_of_type}
+use Rattle.place_set.specs.Sets.{bit, members}
+use Rattle.place_set.proofs.Masks.{bit_none}
+use Rattle.sums.specs.ByType.{is_type}
+use Rattle.count.specs.Counts.{is_of_type}
 use Rattle.count.proofs.Lists.{gathered_none, gathered_one, gathered_all}
 use Rattle.count.proofs.by_type.places_of_type.Goals as goal
 use Rattle.count.proofs.by_type.places_of_type.Goals.{then-is_type, else-is_type}

@@ -1,5 +1,5 @@
 use Rattle.std.proofs.Common.{◌≡◌, ℕ, ◌&&◌, ltb}
-use Rattle.plan.specs.Sets.{members}
+use Rattle.place_set.specs.Sets.{members}
 use Rattle.count.specs.Counts.{is_of_type}
 use Rattle.count.proofs.by_type.places_of_type.Given as goal
 

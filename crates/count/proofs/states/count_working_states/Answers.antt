@@ -1,8 +1,8 @@
 use Rattle.std.proofs.Common.{◌≡◌, ℕ, ◌+◌, ◌^◌, ◌<◌, length, Some, sym, refl, ap, ◌∙◌, subst, arith, length-set, rules}
 use Rattle.rules.specs.declared.item_type.ItemType.TheVariants.{One, Two, Three}
-use Rattle.plan.specs.Sets.{members}
+use Rattle.place_set.specs.Sets.{members}
 use Rattle.cells.specs.Cells.{cell}
-use Rattle.count.specs.Counts.{working_of}
+use Rattle.count.specs.Counts.{working_in}
 use Rattle.count.proofs.Subsets.{inner}
 use Rattle.count.proofs.Counting.{few_from, counted, left, Part, to_come, left_all, left_more, part_more, part_whole, all_counted, cell_is, index, index_below, working_few, counts_one, counts_none, cell_room, falls, start}
 use Rattle.count.proofs.states.count_working_states.Given as given
@@ -41,7 +41,7 @@ overflow_add-cells g c =
     let one = working_few p few One s in
     let two = working_few p few Two s in
     let three = working_few p few Three s in
-    omega (arith, cell_room p few c.loop-next.cells s c.cell.result _ (here g c) (c.loop-next.invariant.2 (working_of p One s) (working_of p Two s) (working_of p Three s) (omega arith) (omega arith) (omega arith)))
+    omega (arith, cell_room p few c.loop-next.cells s c.cell.result _ (here g c) (c.loop-next.invariant.2 (working_in p One s) (working_in p Two s) (working_in p Three s) (omega arith) (omega arith) (omega arith)))
 
 pub bounds-cells-cell-then-works : goal.bounds-cells-cell-then-works
 bounds-cells-cell-then-works g c = below g c

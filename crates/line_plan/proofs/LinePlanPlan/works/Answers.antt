@@ -3,7 +3,7 @@ use mathlib.Core.Bool.{Bool-set}
 use mathlib.Core.Logic.{∥∥₁_elim}
 use Rattle.rules.specs.declared.line.Line.{Line}
 use Rattle.sums.specs.States.{all_failed}
-use Rattle.plan.specs.Sets.{members}
+use Rattle.place_set.specs.Sets.{members}
 use Rattle.line_plan.specs.Items.{listed, state_of}
 use Rattle.line_plan.specs.Meanings.{lines_work}
 use Rattle.line_plan.proofs.Trees.{line_runs}

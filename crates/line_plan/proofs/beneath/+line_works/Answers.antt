@@ -8,7 +8,7 @@ use Rattle.rules.specs.Kinds.{block_works}
 use Rattle.rules.specs.History.{History, line_of}
 use Rattle.rules.specs.Ruled.{Lawful}
 use Rattle.rules.specs.Trees.{State, Tree, works}
-use Rattle.plan.specs.Sets.{members}
+use Rattle.place_set.specs.Sets.{members}
 use Rattle.line_plan.specs.Items.{listed, state_of}
 use Rattle.line_plan.specs.Beneath.{stands_and}
 use Rattle.line_plan.proofs.Trees.{answered, lower, none_refused, stands_none, stands_item, both_lines}

@@ -1,4 +1,4 @@
-use Rattle.std.proofs.Common.{ℕ, get_or, Some, ap, ◌∙◌, arith}
+use Rattle.std.proofs.Common.{ℕ, get_or, Some, sym, ap, ◌∙◌, ap₂, arith}
 use mathlib.Core.Logic.{∥∥₁_elim}
 use native.Mathlib.Bridge.{le_prop}
 use Rattle.sums.proofs.Forest.{lines_stand, lines_low}
@@ -27,8 +27,8 @@ at-y-requires g c = ∥∥₁_elim c.args.book.now.kept (λ p q. le_prop p q) (�
 
 pub returns-in-Item : goal.returns-in-Item
 returns-in-Item g c h k =
-    let e = sums_item (g.T.Tally.meaning c.args.tally.now) (g.met.T.Tally.lawful c.args.tally.now) h k.lawful _ c.in-Item.item_type (c.requires.here h k ∙ ap Some c.in-Item.is) in
-    cc
+    ap₂ (λ u v. record { working = u; failing = v }) c.item_sums.ensures.working c.item_sums.ensures.failing
+    ∙ sym (sums_item (g.T.Tally.meaning c.args.tally.now) (g.met.T.Tally.lawful c.args.tally.now) h k.lawful _ c.in-Item.item_type (c.requires.here h k ∙ ap Some c.in-Item.is))
 
 pub returns-in-Block : goal.returns-in-Block
 returns-in-Block g c h k =

@@ -1,5 +1,5 @@
 use Rattle.std.proofs.Common.{◌≡◌, ap, ◌∙◌, arith}
-use Rattle.plan.specs.Sets.{size, both, members}
+use Rattle.place_set.specs.Sets.{size, both, members}
 use Rattle.count.proofs.by_type.PlacesByType.cell.Goals as goal
 
 pub returns : goal.returns

@@ -1,5 +1,5 @@
 use Rattle.std.proofs.Common.{sym, ◌∙◌, arith}
-use Rattle.plan.specs.Sets.{members}
+use Rattle.place_set.specs.Sets.{members}
 use Rattle.line_plan.proofs.Places.{found, not_found}
 use Rattle.line_plan.proofs.item_list.ItemList.works.Goals as goal
 

@@ -1,6 +1,6 @@
 use Rattle.std.proofs.Common.{not, ap, ◌∙◌, ⊎_elim}
 use Rattle.std.proofs.lemmas.Bool.{cases_lt, lt-ltb}
-use Rattle.plan.specs.Sets.{members, others}
+use Rattle.place_set.specs.Sets.{members, others}
 use Rattle.plan.specs.Plans.{turned_over}
 use Rattle.plan.proofs.mirror.MirrorPlan.works.Goals as goal
 

@@ -1,6 +1,6 @@
 use Rattle.std.proofs.Common.{sym, ◌∙◌, ⊎_elim, arith}
 use Rattle.std.proofs.lemmas.Bool.{true≢false, cases_lt}
-use Rattle.plan.proofs.Masks.{bit_above}
+use Rattle.place_set.proofs.Masks.{bit_above}
 use Rattle.plan.proofs.path_list.making.check_path.Goals as goal
 
 pub returns : goal.returns

@@ -1,5 +1,5 @@
 use Rattle.std.proofs.Common.{◌≡◌, ℕ, ◌<◌, true, None}
-use Rattle.plan.specs.Sets.{members}
+use Rattle.place_set.specs.Sets.{members}
 use Rattle.plan.specs.Paths.{type_at}
 use Rattle.plan.proofs.path_list.making.check_path.Given as goal
 

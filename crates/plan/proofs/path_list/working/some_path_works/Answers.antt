@@ -1,5 +1,5 @@
 use Rattle.std.proofs.Common.{get_or, sym, ap, ◌∙◌, arith, below_more}
-use Rattle.plan.specs.Sets.{members}
+use Rattle.place_set.specs.Sets.{members}
 use Rattle.plan.specs.PathsLemmas.{no_place, covers_from, covers_fails, some_skip, some_hit, some_end}
 use Rattle.plan.proofs.path_list.working.some_path_works.Goals as goal
 

@@ -1,5 +1,5 @@
 use Rattle.std.proofs.Common.{◌≡◌, ℕ, ◌<◌, false, get_or, drop}
-use Rattle.plan.specs.Sets.{members, less}
+use Rattle.place_set.specs.Sets.{members, less}
 use Rattle.plan.specs.Paths.{some_path}
 use Rattle.plan.proofs.path_list.working.some_path_works.Given as goal
 

@@ -1,6 +1,6 @@
 use Rattle.std.proofs.Common.{◌≡◌, ℕ, List, [], ◌∷◌, Some, Err, sym, subst, arith}
-use Rattle.sheet.specs.Texts.{Line, first, others}
-use Rattle.sheet.specs.Cursors.{lines_left}
+use Rattle.text.specs.Texts.{Line, first, others}
+use Rattle.text.specs.Cursors.{lines_left}
 use Rattle.sheet.specs.Applying.{InTurn}
 use Rattle.sheet.proofs.check.applying.take_lines.Goals as goal
 

@@ -2,8 +2,8 @@ use Rattle.std.proofs.Common.{◌≡◌, length, Result}
 use Rattle.rules.specs.History.{History}
 use Rattle.book.specs.Keeps.{Keeps}
 use Rattle.sheet.specs.declared.fault.Fault.{Fault}
-use Rattle.sheet.specs.Texts.{lines_of}
-use Rattle.sheet.specs.Cursors.{lines_left, LinesFit}
+use Rattle.text.specs.Texts.{lines_of}
+use Rattle.text.specs.Cursors.{lines_left, LinesFit}
 use Rattle.sheet.specs.Applying.{InTurn, changes_of, onto}
 use Rattle.sheet.proofs.check.applying.take_lines.Given as goal
 

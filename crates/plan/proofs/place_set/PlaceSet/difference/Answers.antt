@@ -1,6 +1,0 @@
-use Rattle.std.proofs.Common.{arith}
-use Rattle.plan.proofs.Masks.{members_less}
-use Rattle.plan.proofs.place_set.PlaceSet.difference.Goals as goal
-
-pub returns : goal.returns
-returns c = members_less c.args.self.mask c.args.other.mask (omega arith) (omega arith)

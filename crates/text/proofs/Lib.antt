@@ -1,0 +1,6 @@
+pub mod Finding
+pub mod Decimals
+pub mod Cutting
+pub mod Numerals
+pub mod Writing
+pub mod Places

@@ -1,0 +1,26 @@
+ghost use Rattle.std.specs.Prelude.{◌≡◌};
+ghost use Rattle.std.specs.Option.{option_map};
+ghost use Rattle.text.specs.Texts.{before, after, ended};
+
+// The bytes before the first `byte`, and those after it, if there is one.
+pub fn cut<'a>(text: &'a [u8], byte: u8) -> (&'a [u8], Option<&'a [u8]>)
+    ensures front { result.0.now ≡ before byte text.now }
+    ensures rest { option_map (λ x. x.now) result.1 ≡ after byte text.now }
+{
+    for (i, b) in text.iter().enumerate() {
+        if *b == byte {
+            return (&text[0..i], Some(&text[i + 1..]));
+        }
+    }
+    (text, None)
+}
+
+// Whether the last byte is byte 10.
+pub fn is_ended(text: &[u8]) -> bool
+    ensures { result ≡ ended text.now }
+{
+    match text.last() {
+        None => false,
+        Some(byte) => *byte == b'\n',
+    }
+}
