@@ -1,3 +1,4 @@
+pub mod ByType
 pub mod Refusals
 pub mod Types
 pub mod Kinds

@@ -1,34 +1,43 @@
 ghost use Rattle.std.specs.Prelude.{◌≡◌};
-ghost use Rattle.rules.specs.Types.{type_number, type_numbered};
+ghost use Rattle.rules.specs.Types.{type_number, TypeRuled};
+
+use crate::refusal::Refusal;
+use std::fmt;
 
 // The type of an item: 1, 2 or 3.
 #[derive(Clone, Copy, PartialEq, Eq, Debug)]
 pub enum ItemType {
-    One,
-    Two,
-    Three,
+    One = 1,
+    Two = 2,
+    Three = 3,
 }
 
 impl ItemType {
-    // The type with the number.
-    pub fn from_number(number: u32) -> Option<ItemType>
-        ensures { result ≡ type_numbered number }
-    {
-        match number {
-            1 => Some(ItemType::One),
-            2 => Some(ItemType::Two),
-            3 => Some(ItemType::Three),
-            _ => None,
-        }
-    }
-
     pub fn number(self) -> u8
         ensures { result ≡ type_number self }
     {
-        match self {
-            ItemType::One => 1,
-            ItemType::Two => 2,
-            ItemType::Three => 3,
+        self as u8
+    }
+}
+
+// The type with the number.
+impl TryFrom<u32> for ItemType {
+    type Error = Refusal;
+
+    ghost try_from_gives = { TypeRuled };
+
+    fn try_from(number: u32) -> Result<Self, Refusal> {
+        match number {
+            1 => Ok(ItemType::One),
+            2 => Ok(ItemType::Two),
+            3 => Ok(ItemType::Three),
+            _ => Err(Refusal::UnknownType),
         }
+    }
+}
+
+impl fmt::Display for ItemType {
+    fn fmt<W: fmt::Write>(&self, f: &mut fmt::Formatter<W>) -> fmt::Result {
+        write!(f, "{}", self.number())
     }
 }

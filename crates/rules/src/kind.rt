@@ -1,6 +1,8 @@
 ghost use Rattle.std.specs.Prelude.{◌≡◌};
 ghost use Rattle.rules.specs.Kinds.{block_works};
 
+use std::fmt;
+
 // How a block depends on its two lines.
 #[derive(Clone, Copy, PartialEq, Eq, Debug)]
 pub enum Kind {
@@ -17,5 +19,14 @@ impl Kind {
             Kind::Series => a && b,
             Kind::Parallel => a || b,
         }
+    }
+}
+
+impl fmt::Display for Kind {
+    fn fmt<W: fmt::Write>(&self, f: &mut fmt::Formatter<W>) -> fmt::Result {
+        f.write_str(match self {
+            Kind::Series => "series",
+            Kind::Parallel => "parallel",
+        })
     }
 }

@@ -1,5 +1,6 @@
 #![tactic(auto)]
 
+pub mod by_type;
 pub mod change;
 pub mod item_type;
 pub mod kind;

@@ -36,19 +36,13 @@ impl Part {
     pub fn is_item(&self) -> bool
         ensures { result ≡ is_item (Some self.now) }
     {
-        match self {
-            Part::Item(_) => true,
-            Part::Block(_, _, _) => false,
-        }
+        matches!(self, Part::Item(_))
     }
 
     pub fn is_item_of(&self, item_type: ItemType) -> bool
         ensures { result ≡ is_item_of (type_number item_type) (Some self.now) }
     {
-        match self {
-            Part::Item(own) => own.number() == item_type.number(),
-            Part::Block(_, _, _) => false,
-        }
+        self.item_type() == Some(item_type)
     }
 }
 

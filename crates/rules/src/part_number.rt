@@ -1,5 +1,7 @@
 ghost use Rattle.std.specs.Prelude.{◌≡◌};
 
+use std::fmt;
+
 // The number of a line, which is never given to another. It is no place in a table.
 #[derive(Clone, Copy, PartialEq, Eq, PartialOrd, Ord, Debug)]
 pub struct PartNumber {
@@ -17,5 +19,11 @@ impl PartNumber {
         ensures { result ≡ self.value }
     {
         self.value
+    }
+}
+
+impl fmt::Display for PartNumber {
+    fn fmt<W: fmt::Write>(&self, f: &mut fmt::Formatter<W>) -> fmt::Result {
+        write!(f, "{}", self.value)
     }
 }

@@ -9,38 +9,28 @@ ghost use Rattle.sums.specs.Semiring.{Meaning, Semiring};
 
 // In every commutative semiring the two sums of an item are its type's figures, and those of a
 // block follow from those of its lines.
-pub fn block_sums_stand<F>() -> u8
+pub fn block_sums_stand<F>()
     ensures { (m : Meaning F) → Semiring m → BlockSumsStand m }
-{
-    0
-}
+{}
 
 // In every commutative semiring a sum over states does not depend on the order in which the items
 // are listed, nor on whether they go by number or by place.
-pub fn order_stands<F>() -> u8
+pub fn order_stands<F>()
     ensures { (m : Meaning F) → Semiring m → OrderStands m }
-{
-    0
-}
+{}
 
 // After every lawful history each standing line has one tree, in which no item stands twice.
-pub fn trees_stand() -> u8
+pub fn trees_stand()
     ensures { TreesStand }
-{
-    0
-}
+{}
 
 // The numbers from 1 to m that a list has, in rising order.
-pub fn rising_stands() -> u8
+pub fn rising_stands()
     ensures { (m : ℕ) (is : List ℕ) → RisingStands m is }
-{
-    0
-}
+{}
 
 // In every commutative semiring the sums of a standing line are those over the states of the
 // places at which the items beneath it stand in rising number.
-pub fn places_stand<F>() -> u8
+pub fn places_stand<F>()
     ensures { (m : Meaning F) → Semiring m → PlacesStand m }
-{
-    0
-}
+{}

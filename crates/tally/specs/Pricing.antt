@@ -5,6 +5,7 @@ use Rattle.rules.specs.declared.item_type.ItemType.{ItemType}
 use Rattle.rules.specs.declared.item_type.ItemType.TheVariants.{One, Two, Three}
 use Rattle.rules.specs.declared.refusal.Refusal.{Refusal}
 use Rattle.rules.specs.declared.refusal.Refusal.TheVariants.{PriceTooHigh}
+use Rattle.rules.specs.ByType.{of_type}
 use Rattle.rules.specs.Rules.{Rule, ◌when◌, Decided}
 use Rattle.sums.specs.Semiring.{Meaning}
 use Rattle.tally.specs.declared.loss.Loss.{Loss}
@@ -12,9 +13,7 @@ use Rattle.tally.specs.declared.prices.Prices.{Prices}
 
 -- the price of a type
 abbrev pub price_of : Prices → ItemType → ℕ
-price_of p One = p.one
-price_of p Two = p.two
-price_of p Three = p.three
+price_of p = of_type p.each
 
 -- why prices for the three types may not be set
 abbrev pub pricing : ℕ → ℕ → ℕ → List Rule
