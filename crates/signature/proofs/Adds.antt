@@ -37,10 +37,10 @@ adds_then xs ys zs f g one two = record {
 abbrev pub at_cell : ℕ → ℕ → ℕ → ℕ → Polynomial
 at_cell i j k t a b c = cond (eqb i a && (eqb j b && eqb k c)) t 0
 
-at_cell_here : (i j k t a b c : ℕ) → i ≡ a → j ≡ b → k ≡ c → at_cell i j k t a b c ≡ t
+pub at_cell_here : (i j k t a b c : ℕ) → i ≡ a → j ≡ b → k ≡ c → at_cell i j k t a b c ≡ t
 at_cell_here i j k t a b c ea eb ec = grind (arith, nat_tests)
 
-at_cell_elsewhere : (i j k t a b c : ℕ) → (i ≡ a → j ≡ b → k ≡ c → ⊥) → at_cell i j k t a b c ≡ 0
+pub at_cell_elsewhere : (i j k t a b c : ℕ) → (i ≡ a → j ≡ b → k ≡ c → ⊥) → at_cell i j k t a b c ≡ 0
 at_cell_elsewhere i j k t a b c apart = grind (arith, nat_tests)
 
 pub adds_set : (xs : List ℕ) (i j k t v : ℕ) → length xs ≡ 512 → i < 8 → j < 8 → k < 8 → Same v (cell xs i j k + t)

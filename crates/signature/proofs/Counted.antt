@@ -16,6 +16,7 @@ use Rattle.signature.specs.Polynomials.{Polynomial, sum_to, one_at, sum_of, prod
 use Rattle.signature.specs.Signature.{signature}
 use Rattle.signature.specs.Counted.{SignatureStands}
 use Rattle.signature.proofs.Sums.{all_zero, only_at, sum_whole}
+use Rattle.signature.proofs.Adds.{at_cell_here, at_cell_elsewhere}
 use Rattle.signature.specs.Laws.{table_of_sum, table_of_product}
 
 -- sums to a number with one term at most
@@ -25,17 +26,11 @@ sum_to_only n m f le rest = sym (sum_whole n f) ∙ only_at (suc n) m f (omega a
 sum_to_zero : (n : ℕ) (f : ℕ → ℕ) → ((i : ℕ) → i ≤ n → f i ≡ 0) → sum_to n f ≡ 0
 sum_to_zero n f all = sym (sum_whole n f) ∙ all_zero (suc n) f (λ i lt. all i (omega arith))
 
-one_here : (i j k : ℕ) → one_at i j k i j k ≡ 1
-one_here i j k = grind (arith, nat_tests)
-
-one_elsewhere : (i j k a b c : ℕ) → (i ≡ a → j ≡ b → k ≡ c → ⊥) → one_at i j k a b c ≡ 0
-one_elsewhere i j k a b c apart = grind (arith, nat_tests)
-
 -- the product of two products of variables
 module _ (i j k i' j' k' a b c : ℕ) where
   no_term : (l m n : ℕ) → (i ≡ l → j ≡ m → k ≡ n → ⊥) → one_at i j k l m n * one_at i' j' k' (a - l) (b - m) (c - n) ≡ 0
   no_term l m n apart =
-      ap (λ x. x * one_at i' j' k' (a - l) (b - m) (c - n)) (one_elsewhere i j k l m n apart) ∙ zero-mul (one_at i' j' k' (a - l) (b - m) (c - n))
+      ap (λ x. x * one_at i' j' k' (a - l) (b - m) (c - n)) (at_cell_elsewhere i j k 1 l m n apart) ∙ zero-mul (one_at i' j' k' (a - l) (b - m) (c - n))
 
   within : ((i ≤ a) × (j ≤ b) × (k ≤ c)) ⊎ (i ≤ a → j ≤ b → k ≤ c → ⊥)
   within = elim (cases_lt a i) [
@@ -59,12 +54,12 @@ module _ (i j k i' j' k' a b c : ℕ) where
         sum_to_only a i _ here.0 (λ l le ne. sum_to_zero b _ (λ m ml. sum_to_zero c _ (λ n nl. no_term l m n (λ el em en. ne (sym el)))))
         ∙ sum_to_only b j _ here.1 (λ m le ne. sum_to_zero c _ (λ n nl. no_term i m n (λ el em en. ne (sym em))))
         ∙ sum_to_only c k _ here.2 (λ n le ne. no_term i j n (λ el em en. ne (sym en)))
-        ∙ ap (λ x. x * one_at i' j' k' (a - i) (b - j) (c - k)) (one_here i j k)
+        ∙ ap (λ x. x * one_at i' j' k' (a - i) (b - j) (c - k)) (at_cell_here i j k 1 i j k refl refl refl)
         ∙ one-mul (one_at i' j' k' (a - i) (b - j) (c - k))
         ∙ shifted here.0 here.1 here.2
     | inr out ↦
         sum_to_zero a _ (λ l ll. sum_to_zero b _ (λ m ml. sum_to_zero c _ (λ n nl. no_term l m n (λ el em en. out (omega arith) (omega arith) (omega arith)))))
-        ∙ sym (one_elsewhere (i + i') (j + j') (k + k') a b c (λ ea eb ec. out (omega arith) (omega arith) (omega arith)))
+        ∙ sym (at_cell_elsewhere (i + i') (j + j') (k + k') 1 a b c (λ ea eb ec. out (omega arith) (omega arith) (omega arith)))
   ]
 
 -- 1 for a working item of the type t, and 0 for every other

@@ -1,4 +1,5 @@
 mod Cells
+mod Rows
 mod Sums
 mod Adds
 mod Moves

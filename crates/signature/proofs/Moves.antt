@@ -1,5 +1,5 @@
 -- A factor moved up, row by row.
-use Rattle.std.proofs.Common.{◌≡◌, ℕ, ◌+◌, ◌-◌, ◌*◌, ◌/◌, ◌%◌, ◌<◌, ◌≤◌, min, ◌⊎◌, List, get_or, sym, ap, ◌∙◌, inl, inr, mul-zero, arith}
+use Rattle.std.proofs.Common.{◌≡◌, ℕ, ◌+◌, ◌-◌, ◌*◌, ◌/◌, ◌%◌, ◌<◌, ◌≤◌, cond, ◌&&◌, eqb, min, ◌⊎◌, List, get_or, sym, ap, ◌∙◌, inl, inr, mul-zero, arith}
 use Rattle.std.proofs.lemmas.Bool.{cases_lt}
 use Rattle.std.proofs.lemmas.Bool.Decides.{nat_tests}
 use Rattle.signature.specs.Polynomials.{Polynomial}
@@ -14,6 +14,11 @@ scaled_row rows v i c b a = v * get_or rows (16 * (b + 8 * c) + 8 - i + a) 0
 -- and by j and k
 abbrev pub moved_row : List ℕ → ℕ → ℕ → ℕ → ℕ → ℕ → ℕ → Polynomial
 moved_row rows v i j k c b = in_row (b + j) (c + k) (scaled_row rows v i c b)
+
+-- a row that holds what the factor's row does, moved up by i
+pub row_moved : (rows row : List ℕ) (v i j k c b : ℕ) → ((a : ℕ) → a < 8 → get_or row a 0 ≡ get_or rows (16 * (b + 8 * c) + 8 - i + a) 0)
+    → Agree (in_row (b + j) (c + k) (λ a. v * get_or row a 0)) (moved_row rows v i j k c b)
+row_moved rows row v i j k c b same a' b' c' al bl cl = ap (λ n. cond (eqb (b + j) b' && eqb (c + k) c') (v * n) 0) (same a' al)
 
 in_row_here : (b c : ℕ) (g : ℕ → ℕ) (a' b' c' : ℕ) → b ≡ b' → c ≡ c' → in_row b c g a' b' c' ≡ g a'
 in_row_here b c g a' b' c' eb ec = grind (arith, nat_tests)

@@ -2,7 +2,7 @@ use Rattle.std.proofs.Common.{◌≡◌, ℕ, ◌-◌, ◌*◌, min, ◌∙◌, 
 use Rattle.signature.specs.Polynomials.{Polynomial}
 use Rattle.signature.specs.Steps.{Adds, moved, unpadded}
 use Rattle.signature.proofs.Adds.{sum_terms, adds_as, adds_first, adds_more}
-use Rattle.signature.proofs.Moves.{moved_row, moved_sum}
+use Rattle.signature.proofs.Moves.{row_moved, moved_row, moved_sum}
 use Rattle.signature.proofs.product.add_moved.Goals as goal
 
 pub loop-c-init : goal.loop-c-init
@@ -13,8 +13,10 @@ loop-b-init c = adds_first c.loop-c.out _ c.loop-c.invariant.long
 
 pub loop-b-preserved : goal.loop-b-preserved
 loop-b-preserved c =
-    adds_more c.loop-b.b (moved_row c.args.factor.now.rows c.args.v c.args.i c.args.j c.args.k c.loop-c.c)
-    c.loop-c.out c.loop-b.out c.add_row.new.out c.loop-b.invariant c.add_row.ensures
+    let rows = c.args.factor.now.rows in
+    adds_more c.loop-b.b (moved_row rows c.args.v c.args.i c.args.j c.args.k c.loop-c.c) c.loop-c.out c.loop-b.out c.add_row.new.out c.loop-b.invariant
+    (adds_as c.loop-b.out c.add_row.new.out _ _ c.add_row.ensures
+    (row_moved rows c.row.result.now c.args.v c.args.i c.args.j c.args.k c.loop-c.c c.loop-b.b c.row.ensures.cells))
 
 pub loop-c-preserved : goal.loop-c-preserved
 loop-c-preserved c =

@@ -23,13 +23,13 @@ loop-a-init c = adds_first c.args.out.now _ c.told-out
 
 pub loop-a-preserved : goal.loop-a-preserved
 loop-a-preserved c =
-    let t : ℕ → ℕ = λ a. c.args.v * get_or c.args.rows.now (c.args.from + a) 0 in
+    let t : ℕ → ℕ = λ a. c.args.v * get_or c.args.row.now a 0 in
     adds_more c.loop-a.a (λ a. at_cell a c.args.b c.args.c (t a)) c.args.out.now c.loop-a.out _ c.loop-a.invariant
     (written c.loop-a.out c.loop-a.a c.args.b c.args.c (t c.loop-a.a) c.loop-a.invariant.long (omega arith) (omega arith) (omega arith))
 
 pub returns : goal.returns
 returns c =
-    let t : ℕ → ℕ = λ a. c.args.v * get_or c.args.rows.now (c.args.from + a) 0 in
+    let t : ℕ → ℕ = λ a. c.args.v * get_or c.args.row.now a 0 in
     let end : c.loop-a.a ≡ 8 = omega arith in
     adds_as c.args.out.now c.loop-a.out (sum_terms 8 (λ a. at_cell a c.args.b c.args.c (t a))) _
     (subst (λ n. Adds c.args.out.now (sum_terms n (λ a. at_cell a c.args.b c.args.c (t a))) c.loop-a.out) end c.loop-a.invariant)

@@ -1,5 +1,4 @@
-use Rattle.std.proofs.Common.{◌≡◌, ℕ, ◌+◌, ◌*◌, sym, ap, ◌∙◌, subst, zero-mul, arith}
-use Rattle.cells.specs.Cells.{cell}
+use Rattle.std.proofs.Common.{◌≡◌, ℕ, ◌+◌, ◌*◌, get_or, sym, ap, ◌∙◌, subst, zero-mul, arith}
 use Rattle.signature.specs.Polynomials.{Polynomial}
 use Rattle.signature.specs.Steps.{Adds, moved, unpadded}
 use Rattle.signature.proofs.Adds.{sum_terms, adds_none, adds_first, adds_more}
@@ -14,7 +13,7 @@ pub loop-i-preserved : goal.loop-i-preserved
 loop-i-preserved c =
     let i = c.loop-i.i in
     let factor : Polynomial = unpadded c.args.factor.now.rows in
-    let term : ℕ → Polynomial = cell_times (cell c.args.x.now) factor c.args.k c.args.j in
+    let term : ℕ → Polynomial = cell_times (λ i j k. get_or c.args.row.now i 0) factor c.args.k c.args.j in
     elim c.if-v-ne0.branch [
       | then-v-ne0 w ↦
           subst (λ zs. Adds c.args.out.now (sum_terms (i + 1) term) zs) (sym w.out-is)
@@ -28,6 +27,6 @@ loop-i-preserved c =
 
 pub returns : goal.returns
 returns c =
-    let term : ℕ → Polynomial = cell_times (cell c.args.x.now) (unpadded c.args.factor.now.rows) c.args.k c.args.j in
+    let term : ℕ → Polynomial = cell_times (λ i j k. get_or c.args.row.now i 0) (unpadded c.args.factor.now.rows) c.args.k c.args.j in
     let end : c.loop-i.i ≡ 8 = omega arith in
     subst (λ n. Adds c.args.out.now (sum_terms n term) c.loop-i.out) end c.loop-i.invariant

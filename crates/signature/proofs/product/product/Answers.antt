@@ -1,13 +1,14 @@
-use Rattle.std.proofs.Common.{◌≡◌, ℕ, ◌+◌, ◌*◌, ◌%◌, get_or, replicate, sym, refl, ap, ◌∙◌, subst, ap₂, zero-add, zero-mul, arith}
+use Rattle.std.proofs.Common.{◌≡◌, ℕ, ◌+◌, ◌*◌, ◌%◌, ◌<◌, List, [], get_or, replicate, sym, refl, ap, ◌∙◌, subst, ap₂, zero-add, zero-mul, arith}
 use Rattle.cells.specs.Cells.{cell}
 use Rattle.signature.specs.Polynomials.{Polynomial, product_of}
 use Rattle.signature.specs.Steps.{Adds, moved, unpadded}
-use Rattle.signature.proofs.Sums.{all_zero}
+use Rattle.signature.proofs.Sums.{sum_same, all_zero}
 use Rattle.signature.proofs.Cells.{getD_zeros}
-use Rattle.signature.proofs.Adds.{sum_terms, adds_none, adds_first, adds_more}
+use Rattle.signature.proofs.Rows.{cell_of_row}
+use Rattle.signature.proofs.Adds.{sum_terms, adds_none, adds_as, adds_first, adds_more}
 use Rattle.signature.proofs.Scatter.{row_times, layer_times, all_layers}
 use Rattle.signature.proofs.product.product.Goals as goal
-use Rattle.signature.proofs.product.product.Goals.{then-row_nonzero, else-row_nonzero}
+use Rattle.signature.proofs.product.product.Goals.{then-any_nonzero, else-any_nonzero}
 
 pub loop-k-init : goal.loop-k-init
 loop-k-init c = adds_first (replicate 512 0) _ refl
@@ -22,16 +23,22 @@ loop-j-preserved c =
     let k = c.loop-k.k in
     let factor : Polynomial = unpadded c.new-factor.result.rows in
     let row : ℕ → Polynomial = row_times (cell x) factor k in
-    elim c.if-row_nonzero.branch [
-      | then-row_nonzero w ↦
+    let cells : List ℕ = get_or c.as_chunks-in-loop-k.result.0.now j [] in
+    let jl : j < 8 = omega arith in
+    let same : (i : ℕ) → i < 8 → get_or cells i 0 ≡ cell x i j k = λ i il.
+    cell_of_row x c.as_chunks.result.0.now c.as_chunks-in-loop-k.result.0.now _ _ i j k c.as_chunks.ensures.front c.as_chunks-in-loop-k.ensures.front
+    il (omega arith) jl (omega arith) in
+    elim c.if-any_nonzero.branch [
+      | then-any_nonzero w ↦
           subst (λ zs. Adds c.loop-k.out (sum_terms (j + 1) row) zs) (sym w.out-is)
-          (adds_more j row c.loop-k.out c.loop-j.out w.add_row_times.new.out c.loop-j.invariant w.add_row_times.ensures)
-      | else-row_nonzero w ↦
+          (adds_more j row c.loop-k.out c.loop-j.out w.add_row_times.new.out c.loop-j.invariant
+          (adds_as c.loop-j.out w.add_row_times.new.out _ (row j) w.add_row_times.ensures
+          (λ a b d al bl dl. sum_same 8 _ _ (λ i il. ap (λ n. n * moved factor i j k a b d) (same i il)))))
+      | else-any_nonzero w ↦
           subst (λ zs. Adds c.loop-k.out (sum_terms (j + 1) row) zs) (sym w.out-is)
           (adds_more j row c.loop-k.out c.loop-j.out c.loop-j.out c.loop-j.invariant
           (adds_none c.loop-j.out (row j) c.loop-j.invariant.long (λ a b d al bl dl. all_zero 8 _ (λ i il.
-          let place : i + 8 * j + 64 * k ≡ 8 * j + 64 * k + i = omega arith in
-          ap (λ n. n * moved factor i j k a b d) (ap (λ p. get_or x p 0) place ∙ w.if-row_nonzero.ensures.zero refl i il)
+          ap (λ n. n * moved factor i j k a b d) (sym (same i il) ∙ (c.any_nonzero.ensures.0 w.if-any_nonzero.false) i 0 (omega arith))
           ∙ zero-mul (moved factor i j k a b d)))))
     ]
 
