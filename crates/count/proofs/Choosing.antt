@@ -1,8 +1,8 @@
 -- All states of the places, cell by cell, are products of binomials, and none is above 2,450.
-use Rattle.std.proofs.Common.{◌≡◌, ℕ, zero, suc, ◌+◌, ◌-◌, ◌*◌, ◌/◌, ◌<◌, ◌≤◌, Bool, true, false, cond, ◌&&◌, T, eqb, ltb, leb, List, [], ◌∷◌, length, get_or, set, is_some, Some, None, Option, sym, refl, ap, ◌∙◌, ap₂, ⊎_elim, le_trans, mul-le-mul, add_comm, zero-add, one-add, arith, le→leb, leb→le, get_or-set_other, get_or-set_same}
+use Rattle.std.proofs.Common.{◌≡◌, ℕ, zero, suc, ◌+◌, ◌*◌, ◌/◌, ◌<◌, ◌≤◌, Bool, true, false, cond, ◌&&◌, T, eqb, leb, List, [], ◌∷◌, is_some, Some, None, Option, refl, ap, ◌∙◌, ap₂, ⊎_elim, le_trans, mul-le-mul, zero-add, one-add, arith, le→leb, leb→le}
 use mathlib.Core.Path.{fun_ext}
 use lib.Dec.{eqb-zero-suc, eqb-suc-zero, eqb-suc-suc}
-use Rattle.std.proofs.lemmas.Bool.{cases_eq, cases_lt, false≢true, lt-ltb, le-ltb}
+use Rattle.std.proofs.lemmas.Bool.{cases_eq, cases_lt, false≢true}
 use Rattle.rules.specs.declared.item_type.ItemType.{ItemType}
 use Rattle.rules.specs.declared.item_type.ItemType.TheVariants.{One, Two, Three}
 use Rattle.rules.specs.Trees.{State}
@@ -210,31 +210,6 @@ module _ (p : Structure) (few : (t : ItemType) → places_of p t ≤ 7) where
   pub working_bounded : (a b c : ℕ) → working_states p a b c ≤ 2450
   working_bounded a b c =
       le_trans (count_less p.works (in_cell p a b c) (states (places p) all_failed)) (rw (total_choices p a b c) (choices_bounded a b c))
-
--- a row of Pascal's triangle in place of the one before, from its end: k is the first number done
-module _ (row : List ℕ) (n k : ℕ) (long : length row ≡ 8) (so_far : (j : ℕ) → j < 8 → get_or row j 0 ≡ cond (ltb j k) (choose n j) (choose (suc n) j)) where
-  pub row_old : (j : ℕ) → j < 8 → j < k → get_or row j 0 ≡ choose n j
-  row_old j lt below = let t = lt-ltb j k below in so_far j lt ∙ rw t refl
-
-  pub row_more : 1 < k → k ≤ 8 → (j : ℕ) → j < 8 → get_or (set row (k - 1) (get_or row (k - 1) 0 + get_or row (k - 1 - 1) 0)) j 0 ≡ cond (ltb j (k - 1)) (choose n j) (choose (suc n) j)
-  row_more some most j lt =
-      let i = k - 1 in
-      let h = k - 1 - 1 in
-      let v = get_or row i 0 + get_or row h 0 in
-      let next : i ≡ suc h = omega arith in
-      ⊎_elim
-      (λ same.
-      let inside : i < length row = omega arith in
-      let t : ltb j i ≡ false = le-ltb j i (omega arith) in
-      let sum : choose n i + choose n h ≡ choose (suc n) j = ap (λ m. choose n m + choose n h) next ∙ add_comm (choose n (suc h)) (choose n h) ∙ ap (choose (suc n)) (sym (same ∙ next)) in
-      let at_i : get_or row i 0 ≡ choose n i = row_old i (omega arith) (omega arith) in
-      let at-h : get_or row h 0 ≡ choose n h = row_old h (omega arith) (omega arith) in
-      ap (λ m. get_or (set row i v) m 0) same ∙ get_or-set_same row i v 0 inside ∙ ap₂ ◌+◌ at_i at-h ∙ sum ∙ ap (λ b. cond b (choose n j) (choose (suc n) j)) (sym t))
-      (λ other. get_or-set_other row i j v 0 other ∙ so_far j lt ∙ ap (λ b. cond b (choose n j) (choose (suc n) j)) (beside j other))
-      (cases_eq j i)
-    where
-      beside : (j : ℕ) → (j ≡ k - 1 → ⊥) → ltb j k ≡ ltb j (k - 1)
-      beside j ne = ⊎_elim (λ low. lt-ltb j k low ∙ sym (lt-ltb j (k - 1) (omega arith))) (λ high. le-ltb j k high ∙ sym (le-ltb j (k - 1) (omega arith))) (cases_lt j k)
 
 -- a product of three binomials fits 16 bits
 pub two_small : (x y : ℕ) → x ≤ 35 → y ≤ 35 → x * y ≤ 1225

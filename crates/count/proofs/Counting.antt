@@ -1,9 +1,8 @@
 -- The loop of the long count, state by state.
-use Rattle.std.proofs.Common.{◌≡◌, ℕ, suc, ◌+◌, ◌*◌, ◌^◌, ◌<◌, ◌≤◌, Bool, true, false, cond, ◌&&◌, ◌||◌, eqb, List, [], ◌∷◌, length, get_or, set, replicate, is_some, Some, None, Option, sym, refl, ap, ◌∙◌, ap₂, ⊎_elim, add-zero, zero-add, arith, get_or-set_other, get_or-set_same, MatchOption}
+use Rattle.std.proofs.Common.{◌≡◌, ℕ, ◌+◌, ◌*◌, ◌^◌, ◌<◌, ◌≤◌, Bool, true, false, cond, ◌&&◌, ◌||◌, eqb, List, [], ◌∷◌, length, get_or, set, replicate, is_some, Some, None, Option, sym, refl, ap, ◌∙◌, ⊎_elim, add-zero, zero-add, arith, get_or-set_other, get_or-set_same}
 use mathlib.Core.Path.{fun_ext}
-use lib.Bits.{bit_and, and_le_r}
 use lib.ListN.{get_or-replicate}
-use Rattle.std.proofs.lemmas.Bool.{cases_eq, cases_lt, cases_Bool, eqb-true, eq-eqb, ne_eqb, and_from, and_parts}
+use Rattle.std.proofs.lemmas.Bool.{cases_eq, cases_lt, cases_Bool, eqb-true, eq-eqb, and_from, and_parts}
 use Rattle.rules.specs.declared.item_type.ItemType.{ItemType}
 use Rattle.rules.specs.declared.item_type.ItemType.TheVariants.{One, Two, Three}
 use Rattle.rules.specs.Rules.{Allowed}
@@ -11,16 +10,16 @@ use Rattle.rules.specs.Trees.{State}
 use Rattle.sums.specs.States.{all_failed, keep, range, count}
 use Rattle.place_set.specs.declared.PlaceSet.{PlaceSet}
 use Rattle.plan.specs.Plans.{Structure}
-use Rattle.place_set.specs.Sets.{bit, members, size, both, Within, NextBelow}
-use Rattle.place_set.proofs.Masks.{within_and, and_within}
+use Rattle.place_set.specs.Sets.{members, size, both}
 use Rattle.cells.specs.Cells.{cell}
-use Rattle.count.specs.declared.by_type.PlacesByType.{PlacesByType}
+use Rattle.rules.specs.declared.by_type.ByType.{ByType}
+use Rattle.place_set.specs.Subsets.{subsets_of}
 use Rattle.count.specs.ByType.{Sorted, some_type}
 use Rattle.sums.specs.ByType.{is_type}
 use Rattle.count.specs.Counts.{is_of_type, places, places_of, working_in, in_cell, working_states, count_rules}
 use Rattle.count.proofs.Over.{over, count_states}
 use Rattle.count.proofs.Lists.{size_working}
-use Rattle.count.proofs.Subsets.{sum_below, sum_none, sum_more, sum_gap, inner, subset_sum}
+use Rattle.count.proofs.Subsets.{sum_over, sum_over_subsets}
 use Rattle.count.proofs.Choosing.{working_bounded}
 
 pub few_from : (p : Structure) → Allowed (count_rules p) → (t : ItemType) → places_of p t ≤ 7
@@ -30,56 +29,6 @@ few_from p a t = ⊎_elim (λ lt. absurd (a.0 (t, lt))) (λ le. le) (cases_lt 7 
 abbrev pub counted : Structure → ℕ → ℕ → ℕ → State → ℕ
 counted p a b c s = cond (p.works s && in_cell p a b c s) 1 0
 
--- the sets that are still to come
-abbrev pub left : Option PlaceSet → (ℕ → ℕ) → ℕ
-left None f = 0
-left (Some s) f = sum_below (suc s.mask) f
-
--- how many sets may still come
-abbrev pub to_come : Option PlaceSet → ℕ
-to_come None = 0
-to_come (Some s) = suc s.mask
-
--- the next set is a subset of the whole
-abbrev pub Part : PlaceSet → Option PlaceSet → Type 0
-Part whole None = Unit {0}
-Part whole (Some s) = (s.mask < 2 ^ 16) × Within (members s) (members whole)
-
--- o is the subset after s, if there is one
-abbrev pub After : PlaceSet → PlaceSet → Option PlaceSet → Type 0
-After whole s o = MatchOption o (s.mask ≡ 0) (λ t. NextBelow whole s t)
-
-outside : (m t : ℕ) (f : State → ℕ) → (bit_and t m ≡ t → ⊥) → inner m f t ≡ 0
-outside m t f no_part = ap (λ b. cond b (f (bit t)) 0) (ne_eqb (bit_and t m) t no_part)
-
-module _ (whole : PlaceSet) where
-  -- nothing above the whole is a part of it
-  pub left_all : whole.mask < 2 ^ 16 → (f : State → ℕ) → left (Some whole) (inner whole.mask f) ≡ sum_below (2 ^ 16) (inner whole.mask f)
-  left_all small f = sym (sum_gap whole.mask (2 ^ 16) (inner whole.mask f) small (λ t above below. outside whole.mask t f (λ part. let le = and_le_r t whole.mask in omega arith)))
-
-  pub left_more : (s : PlaceSet) (o : Option PlaceSet) → Part whole (Some s) → After whole s o → (f : State → ℕ) → left (Some s) (inner whole.mask f) ≡ left o (inner whole.mask f) + f (members s)
-  left_more s o part next f =
-      let g = inner whole.mask f in
-      let here : g s.mask ≡ f (members s) = ap (λ b. cond b (f (members s)) 0) (eq-eqb (bit_and s.mask whole.mask) s.mask (within_and 16 s.mask whole.mask part.0 part.1)) in
-      sum_more s.mask g ∙ ap₂ ◌+◌ (before o next) here
-    where
-      before : (o : Option PlaceSet) → After whole s o → sum_below s.mask (inner whole.mask f) ≡ left o (inner whole.mask f)
-      before None none = ap (λ n. sum_below n (inner whole.mask f)) none ∙ sum_none (inner whole.mask f)
-      before (Some t) next =
-          sum_gap t.mask s.mask (inner whole.mask f) next.lower
-          (λ u above below. outside whole.mask u f (λ part. let most = next.highest (record { mask = u }) (and_within u whole.mask part) below in omega arith))
-
-  pub part_more : (s : PlaceSet) (o : Option PlaceSet) → Part whole (Some s) → After whole s o → Part whole o
-  part_more s None part next = tt
-  part_more s (Some t) part next = (let lower = next.lower in let small = part.0 in omega arith, next.subset)
-
-  pub falls : (s : PlaceSet) (o : Option PlaceSet) → After whole s o → to_come o < to_come (Some s)
-  falls s None next = omega arith
-  falls s (Some t) next = let lower = next.lower in omega arith
-
-pub part_whole : (whole : PlaceSet) → whole.mask < 2 ^ 16 → Part whole (Some whole)
-part_whole whole small = (small, λ i on. on)
-
 -- the places of some type are the non-empty ones
 any_type : (o : Option ItemType) → ((is_type One o || is_type Two o) || is_type Three o) ≡ is_some o
 any_type None = refl
@@ -87,25 +36,25 @@ any_type (Some One) = refl
 any_type (Some Two) = refl
 any_type (Some Three) = refl
 
-module _ (p : Structure) (m : PlacesByType) (sorted : Sorted p m) where
-  pub all_counted : (whole : PlaceSet) → whole.mask < 2 ^ 16 → members whole ≡ some_type m → (a b c : ℕ) → sum_below (2 ^ 16) (inner whole.mask (counted p a b c)) ≡ working_states p a b c
+-- where a state's cell stands
+abbrev pub index : Structure → State → ℕ
+index p s = working_in p One s + 8 * working_in p Two s + 64 * working_in p Three s
+
+module _ (p : Structure) (places_of_types : ByType PlaceSet) (sorted : Sorted p places_of_types) where
+  pub all_counted : (whole : PlaceSet) → whole.mask < 2 ^ 16 → members whole ≡ some_type places_of_types → (a b c : ℕ) → sum_over (counted p a b c) (subsets_of whole) ≡ working_states p a b c
   unfolding places
   all_counted whole small e a b c =
       let full : members whole ≡ (λ i. is_some (p.types i)) =
-      e ∙ fun_ext (λ i j. (sorted.one j i || sorted.two j i) || sorted.three j i) ∙ fun_ext (λ i. any_type (p.types i)) in
-      subset_sum 16 whole.mask small (counted p a b c)
+      e ∙ fun_ext (λ i j. (sorted One j i || sorted Two j i) || sorted Three j i) ∙ fun_ext (λ i. any_type (p.types i)) in
+      sum_over_subsets whole small (counted p a b c)
       ∙ ap (λ q. over (keep q (range 0 16)) all_failed (counted p a b c)) full
       ∙ sym (count_states (λ s. p.works s && in_cell p a b c s) (keep (λ i. is_some (p.types i)) (range 0 16)) all_failed)
 
-  -- where a state's cell stands
-  abbrev pub place_of : State → ℕ
-  place_of s = working_in p One s + 8 * working_in p Two s + 64 * working_in p Three s
-
-  pub cell_is : (s : State) (i : ℕ) → i ≡ size (both s (members m.one)) + 8 * size (both s (members m.two)) + 64 * size (both s (members m.three)) → i ≡ place_of s
+  pub cell_is : (s : State) (i : ℕ) → i ≡ size (both s (members places_of_types.one)) + 8 * size (both s (members places_of_types.two)) + 64 * size (both s (members places_of_types.three)) → i ≡ index p s
   cell_is s i e =
-      let one = ap (λ t. size (both s t)) sorted.one ∙ size_working p One s in
-      let two = ap (λ t. size (both s t)) sorted.two ∙ size_working p Two s in
-      let three = ap (λ t. size (both s t)) sorted.three ∙ size_working p Three s in
+      let one = ap (λ t. size (both s t)) (sorted One) ∙ size_working p One s in
+      let two = ap (λ t. size (both s t)) (sorted Two) ∙ size_working p Two s in
+      let three = ap (λ t. size (both s t)) (sorted Three) ∙ size_working p Three s in
       omega arith
 
 count_part : {A : Type 0} (q f : A → Bool) (xs : List A) → count (λ x. q x && f x) xs ≤ count q xs
@@ -121,13 +70,10 @@ module _ (p : Structure) (few : (t : ItemType) → places_of p t ≤ 7) where
   pub working_few : (t : ItemType) (s : State) → working_in p t s ≤ 7
   working_few t s = let le = count_part (is_of_type p t) s (places p) in let most = few t in omega arith
 
-  abbrev pub index : State → ℕ
-  index s = working_in p One s + 8 * working_in p Two s + 64 * working_in p Three s
-
-  pub index_below : (s : State) → index s < 512
+  pub index_below : (s : State) → index p s < 512
   index_below s = let one = working_few One s in let two = working_few Two s in let three = working_few Three s in omega arith
 
-  has_here : (s : State) (a b c : ℕ) → a < 8 → b < 8 → c < 8 → a + 8 * b + 64 * c ≡ index s → in_cell p a b c s ≡ true
+  has_here : (s : State) (a b c : ℕ) → a < 8 → b < 8 → c < 8 → a + 8 * b + 64 * c ≡ index p s → in_cell p a b c s ≡ true
   has_here s a b c la lb lc e =
       let one = working_few One s in
       let two = working_few Two s in
@@ -135,17 +81,17 @@ module _ (p : Structure) (few : (t : ItemType) → places_of p t ≤ 7) where
       and_from (eqb (working_in p One s) a) (eqb (working_in p Two s) b && eqb (working_in p Three s) c) (eq-eqb (working_in p One s) a (omega arith))
       (and_from (eqb (working_in p Two s) b) (eqb (working_in p Three s) c) (eq-eqb (working_in p Two s) b (omega arith)) (eq-eqb (working_in p Three s) c (omega arith)))
 
-  has_elsewhere : (s : State) (a b c : ℕ) → (a + 8 * b + 64 * c ≡ index s → ⊥) → in_cell p a b c s ≡ false
+  has_elsewhere : (s : State) (a b c : ℕ) → (a + 8 * b + 64 * c ≡ index p s → ⊥) → in_cell p a b c s ≡ false
   has_elsewhere s a b c ne = ⊎_elim (λ on. absurd (ne (same on))) (λ off. off) (cases_Bool (in_cell p a b c s))
     where
-      same : in_cell p a b c s ≡ true → a + 8 * b + 64 * c ≡ index s
+      same : in_cell p a b c s ≡ true → a + 8 * b + 64 * c ≡ index p s
       same on =
           let one = and_parts (eqb (working_in p One s) a) (eqb (working_in p Two s) b && eqb (working_in p Three s) c) on in
           let two = and_parts (eqb (working_in p Two s) b) (eqb (working_in p Three s) c) one.1 in
           omega (arith, eqb-true (working_in p One s) a one.0, eqb-true (working_in p Two s) b two.0, eqb-true (working_in p Three s) c two.1)
 
   -- one more state in its cell, and nothing elsewhere
-  pub counts_one : (cells : List ℕ) (s : State) → length cells ≡ 512 → p.works s ≡ true → (i : ℕ) → i ≡ index s → (a b c : ℕ) → a < 8 → b < 8 → c < 8
+  pub counts_one : (cells : List ℕ) (s : State) → length cells ≡ 512 → p.works s ≡ true → (i : ℕ) → i ≡ index p s → (a b c : ℕ) → a < 8 → b < 8 → c < 8
       → cell (set cells i (get_or cells i 0 + 1)) a b c ≡ cell cells a b c + counted p a b c s
   counts_one cells s long on i is a b c la lb lc =
       let k = a + 8 * b + 64 * c in
@@ -160,11 +106,8 @@ module _ (p : Structure) (few : (t : ItemType) → places_of p t ≤ 7) where
       rw (on, h) (get_or-set_other cells i k (get_or cells i 0 + 1) 0 other ∙ sym (add-zero _)))
       (cases_eq k i)
 
-  pub counts_none : (s : State) → p.works s ≡ false → (a b c : ℕ) → counted p a b c s ≡ 0
-  counts_none s off a b c = rw off
-
   -- what a cell holds so far is far from the limit of 16 bits
-  pub cell_room : (cells : List ℕ) (s : State) (i rest : ℕ) → i ≡ index s → cell cells (working_in p One s) (working_in p Two s) (working_in p Three s) + rest ≡ working_states p (working_in p One s) (working_in p Two s) (working_in p Three s)
+  pub cell_room : (cells : List ℕ) (s : State) (i rest : ℕ) → i ≡ index p s → cell cells (working_in p One s) (working_in p Two s) (working_in p Three s) + rest ≡ working_states p (working_in p One s) (working_in p Two s) (working_in p Three s)
       → get_or cells i 0 + 1 < 65536
   cell_room cells s i rest is so_far =
       let most = working_bounded p few (working_in p One s) (working_in p Two s) (working_in p Three s) in

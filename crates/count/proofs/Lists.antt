@@ -3,8 +3,10 @@ use Rattle.std.proofs.Common.{◌≡◌, ℕ, zero, suc, ◌+◌, ◌<◌, ◌�
 use mathlib.Core.Path.{fun_ext}
 use mathlib.Core.List.Memᴰ
 use mathlib.Core.List.{Memᴰ}
-use Rattle.std.proofs.lemmas.Bool.{false≢true, and_parts, and_right, cases_eq, cases_lt, lt-ltb, le-ltb, eq-eqb, ne_eqb}
+use Rattle.std.proofs.lemmas.Bool.{false≢true, cases_Bool, and_parts, and_right, cases_eq, cases_lt, lt-ltb, le-ltb, eq-eqb, ne_eqb}
 use Rattle.rules.specs.declared.item_type.ItemType.{ItemType}
+use Rattle.rules.specs.declared.item_type.ItemType.TheVariants.{One, Two, Three}
+use Rattle.rules.specs.Types.{type_number}
 use Rattle.rules.specs.Trees.{State}
 use Rattle.sums.specs.States.{keep, range, count}
 use Rattle.plan.specs.Plans.{Structure}
@@ -56,6 +58,31 @@ count_kept r q (x ∷ xs) h = at (r x) refl (count_kept r q xs h)
     at true e ih = ap (λ n. cond (q x) 1 0 + n) ih
     at false e ih = ih ∙ sym (off (q x) (λ on. false≢true (sym e ∙ h x on)))
 
+-- a place has one type
+pub type_is : (t : ItemType) (o : Option ItemType) → is_type t o ≡ true → o ≡ Some t
+type_is t None on = absurd (false≢true on)
+type_is One (Some One) on = refl
+type_is One (Some Two) on = absurd (false≢true on)
+type_is One (Some Three) on = absurd (false≢true on)
+type_is Two (Some One) on = absurd (false≢true on)
+type_is Two (Some Two) on = refl
+type_is Two (Some Three) on = absurd (false≢true on)
+type_is Three (Some One) on = absurd (false≢true on)
+type_is Three (Some Two) on = absurd (false≢true on)
+type_is Three (Some Three) on = refl
+
+pub is_own_type : (t : ItemType) (o : Option ItemType) → o ≡ Some t → is_type t o ≡ true
+is_own_type t o e = ap (is_type t) e ∙ eq-eqb (type_number t) (type_number t) refl
+
+pub is_other_type : (t : ItemType) (o : Option ItemType) → (o ≡ Some t → ⊥) → is_type t o ≡ false
+is_other_type t o ne = ⊎_elim (λ on. absurd (ne (type_is t o on))) (λ off. off) (cases_Bool (is_type t o))
+
+-- what holds for each of the three types
+pub each_type : (P : ItemType → Type 0) → P One → P Two → P Three → (t : ItemType) → P t
+each_type P one two three One = one
+each_type P one two three Two = two
+each_type P one two three Three = three
+
 -- the sizes of sets of places
 some_type : (t : ItemType) (o : Option ItemType) → is_type t o ≡ true → is_some o ≡ true
 some_type t None on = on
@@ -64,6 +91,9 @@ some_type t (Some u) on = refl
 pub size_places : (p : Structure) (t : ItemType) → size (is_of_type p t) ≡ places_of p t
 unfolding size places
 size_places p t = sym (count_kept (λ i. is_some (p.types i)) (is_of_type p t) (range 0 16) (λ i on. some_type t (p.types i) on))
+
+pub size_of_type : (p : Structure) (t : ItemType) (s : State) → s ≡ is_of_type p t → size s ≡ places_of p t
+size_of_type p t s e = ap size e ∙ size_places p t
 
 pub size_working : (p : Structure) (t : ItemType) (s : State) → size (both s (is_of_type p t)) ≡ working_in p t s
 unfolding size places
@@ -106,6 +136,3 @@ module _ (of : ℕ → Bool) (found : State) (n : ℕ) (so_far : (i : ℕ) → f
       let elsewhere = ne_eqb n i (λ e. other (sym e)) in
       rw elsewhere (so_far i ∙ ap (λ b. b && of i) (beside i other)))
       (cases_eq i n)
-
-  pub gathered_all : 16 ≤ n → ((i : ℕ) → 16 ≤ i → of i ≡ false) → found ≡ of
-  gathered_all whole above = fun_ext (λ i. so_far i ∙ ⊎_elim (λ lt. ap (λ b. b && of i) (lt-ltb i n lt)) (λ le. let e = above i (omega arith) in rw e (and_right (ltb i n) false refl)) (cases_lt i n))

@@ -1,5 +1,5 @@
 -- The step-up inequality.
-use Rattle.std.proofs.Common.{◌≡◌, ℕ, zero, suc, ◌+◌, ◌-◌, ◌*◌, ◌≤◌, Bool, true, false, cond, ◌&&◌, eqb, List, [], ◌∷◌, Some, None, Option, sym, refl, ap, ◌∙◌, ap₂, ⊎_elim, zero-add, add-one, one-add, arith}
+use Rattle.std.proofs.Common.{◌≡◌, ℕ, zero, suc, ◌+◌, ◌-◌, ◌*◌, ◌≤◌, Bool, true, false, cond, ◌&&◌, eqb, List, [], ◌∷◌, Some, Option, sym, refl, ap, ◌∙◌, ap₂, ⊎_elim, zero-add, add-one, one-add, arith}
 use mathlib.Core.Path.{fun_ext}
 use mathlib.Core.List.{Memᴰ}
 use lib.Dec.{eqb-zero-suc, eqb-suc-zero, eqb-suc-suc}
@@ -13,7 +13,7 @@ use Rattle.sums.specs.ByType.{is_type}
 use Rattle.count.specs.Counts.{is_of_type, places, working_in, working_states}
 use Rattle.count.specs.Laws.{StepUp}
 use Rattle.count.proofs.Over.{over, Distinct, put_same, put_other, put_put, put_swap, count_states, over_agree, over_zero}
-use Rattle.count.proofs.Lists.{places_distinct}
+use Rattle.count.proofs.Lists.{places_distinct, type_is}
 
 -- g is a row of sums over n places that steps up
 abbrev Up : ℕ → (ℕ → ℕ) → Type 0
@@ -129,19 +129,6 @@ module _ (of : ℕ → Bool) where
         into true false z = refl
         into false true z = refl
         into false false z = refl
-
--- a place has one type
-type_is : (t : ItemType) (o : Option ItemType) → is_type t o ≡ true → o ≡ Some t
-type_is t None on = absurd (false≢true on)
-type_is One (Some One) on = refl
-type_is One (Some Two) on = absurd (false≢true on)
-type_is One (Some Three) on = absurd (false≢true on)
-type_is Two (Some One) on = absurd (false≢true on)
-type_is Two (Some Two) on = refl
-type_is Two (Some Three) on = absurd (false≢true on)
-type_is Three (Some One) on = absurd (false≢true on)
-type_is Three (Some Two) on = absurd (false≢true on)
-type_is Three (Some Three) on = refl
 
 apart : (t u : ItemType) → is_type u (Some t) ≡ false → (o : Option ItemType) → is_type t o ≡ true → is_type u o ≡ false
 apart t u ne o on = ap (is_type u) (type_is t o on) ∙ ne

@@ -1,12 +1,14 @@
 -- The subsets of a set of places, in falling order of their masks, are the states of its places.
-use Rattle.std.proofs.Common.{◌≡◌, ℕ, zero, suc, ◌+◌, ◌*◌, ◌/◌, ◌%◌, ◌^◌, ◌<◌, min, Bool, true, false, cond, eqb, List, [], ◌∷◌, map, sym, refl, ap, ◌∙◌, ap₂, ⊎_elim, add-zero, pow-suc, zero-add, add-one, arith}
+use Rattle.std.proofs.Common.{◌≡◌, ℕ, zero, suc, ◌+◌, ◌*◌, ◌/◌, ◌%◌, ◌^◌, ◌<◌, min, Bool, true, false, cond, eqb, List, [], ◌∷◌, map, sym, refl, ap, ◌∙◌, ap₂, ⊎_elim, add-zero, add_comm, pow-suc, zero-add, add-one, arith}
 use mathlib.Core.Path.{fun_ext}
 use lib.Bits.{bit_and, and_step, and_zero_l}
 use lib.Dec.{eqb-zero-suc, eqb-suc-zero, eqb-suc-suc}
 use Rattle.std.proofs.lemmas.Bool.{cases_eq, cases_Bool, eqb-true, eqb-false, eq-eqb, ne_eqb}
 use Rattle.rules.specs.Trees.{State}
-use Rattle.sums.specs.States.{all_failed, put, keep, range}
-use Rattle.place_set.specs.Sets.{bit}
+use Rattle.sums.specs.States.{all_failed, put, keep, range, total}
+use Rattle.place_set.specs.declared.PlaceSet.{PlaceSet}
+use Rattle.place_set.specs.Sets.{bit, members}
+use Rattle.place_set.specs.Subsets.{sets_below, is_subset, subsets_of}
 use Rattle.place_set.proofs.Masks.{bit_zero, bit_suc, bit_none, range_suc}
 use Rattle.count.proofs.Over.{over, over_plus}
 
@@ -15,30 +17,12 @@ unfoldable pub sum_below : ℕ → (ℕ → ℕ) → ℕ
 sum_below zero f = 0
 sum_below (suc n) f = sum_below n f + f n
 
-pub sum_none : (f : ℕ → ℕ) → sum_below 0 f ≡ 0
-unfolding sum_below
-sum_none f = refl
-
-pub sum_more : (n : ℕ) (f : ℕ → ℕ) → sum_below (suc n) f ≡ sum_below n f + f n
-unfolding sum_below
-sum_more n f = refl
-
 twos : (n : ℕ) (f : ℕ → ℕ) → sum_below (n * 2) f ≡ sum_below n (λ i. f (i * 2) + f (i * 2 + 1))
 unfolding sum_below
 twos zero f = refl
 twos (suc n) f =
     let e : suc n * 2 ≡ suc (suc (n * 2)) = omega arith in
     ap (λ m. sum_below m f) e ∙ ap₂ (λ x y. x + f (n * 2) + f y) (twos n f) (sym (add-one (n * 2))) ∙ omega arith
-
--- nothing but zeros from n + 1 to s
-pub sum_gap : (n s : ℕ) (f : ℕ → ℕ) → n < s → ((t : ℕ) → n < t → t < s → f t ≡ 0) → sum_below s f ≡ sum_below (suc n) f
-unfolding sum_below
-sum_gap n zero f lt none = absurd (omega arith)
-sum_gap n (suc s) f lt none =
-    ⊎_elim
-    (λ same. ap (λ m. sum_below (suc m) f) (sym same))
-    (λ other. ap₂ ◌+◌ (sum_gap n s f (omega arith) (λ t a b. none t a (omega arith))) (none s (omega arith) (omega arith)) ∙ add-zero _)
-    (cases_eq n s)
 
 -- whether the mask t is a subset of the mask m
 abbrev pub inside : ℕ → ℕ → Bool
@@ -180,3 +164,23 @@ subset_sum (suc w) m lt f =
 
     side : (ks : List ℕ) (f : State → ℕ) (v : Bool) → over (map suc ks) (put 0 v all_failed) f ≡ over ks all_failed (λ t. f (front v t))
     side ks f v = ap (λ s. over (map suc ks) s f) (start_front v) ∙ over_front ks v all_failed f
+
+-- f of each of the sets, added up
+abbrev pub sum_over : (State → ℕ) → List PlaceSet → ℕ
+sum_over f sets = total 0 ◌+◌ (λ s. f (members s)) sets
+
+sum_over_kept : (set : PlaceSet) (n : ℕ) (f : State → ℕ) → sum_over f (keep (is_subset set) (sets_below n)) ≡ sum_below n (inner set.mask f)
+unfolding sum_below
+sum_over_kept set zero f = refl
+sum_over_kept set (suc n) f = at (inside n set.mask) ∙ ap (λ m. m + inner set.mask f n) (sum_over_kept set n f)
+  where
+    rest : List PlaceSet
+    rest = keep (is_subset set) (sets_below n)
+
+    at : (b : Bool) → sum_over f (cond b (record { mask = n } ∷ rest) rest) ≡ sum_over f rest + cond b (f (bit n)) 0
+    at true = add_comm (f (bit n)) (sum_over f rest)
+    at false = sym (add-zero (sum_over f rest))
+
+pub sum_over_subsets : (set : PlaceSet) → set.mask < 2 ^ 16 → (f : State → ℕ) → sum_over f (subsets_of set) ≡ over (keep (members set) (range 0 16)) all_failed f
+unfolding subsets_of
+sum_over_subsets set small f = sum_over_kept set 65536 f ∙ subset_sum 16 set.mask small f

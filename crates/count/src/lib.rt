@@ -11,6 +11,7 @@ use binomials::count_choices;
 use by_type::places_by_type;
 use cells::table::CellTable;
 use plan::Plan;
+use rules::by_type::ByType;
 use rules::refusal::Refusal;
 use states::count_working_states;
 
@@ -31,8 +32,12 @@ pub fn totals<P: Plan>(plan: &P, table: &mut CellTable) -> Result<(), Refusal>
     ensures { TotalsRuled (P.Plan.meaning plan.now) table.old result table.new }
 {
     let places = places_by_type(plan)?;
-    let (one, two, three) = (places.one.len(), places.two.len(), places.three.len());
-    *table = CellTable::new(count_choices(one, two, three));
+    let numbers = ByType {
+        one: places.one.len(),
+        two: places.two.len(),
+        three: places.three.len(),
+    };
+    *table = CellTable::new(count_choices(numbers));
     Ok(())
 }
 
@@ -59,7 +64,7 @@ mod tests {
     // The paths {0, 1} and {2}; mirrored; and with the place 2 locked out.
     #[test]
     fn counts(rt: HostRuntime) -> Result<(), Fail> {
-        let paths = [PlaceSet::from_mask(3), PlaceSet::from_mask(4)].to_vec(rt.alloc())?;
+        let paths = [PlaceSet::from(3), PlaceSet::from(4)].to_vec(rt.alloc())?;
         let list = PathList::new(NUMBERS, paths)?;
         let mut table = CellTable::new([9; 512]);
         long_count(&list, &mut table)?;
@@ -80,7 +85,7 @@ mod tests {
 
     #[test]
     fn refusal(rt: HostRuntime) -> Result<(), Fail> {
-        let paths = [PlaceSet::from_mask(1)].to_vec(rt.alloc())?;
+        let paths = [PlaceSet::from(1)].to_vec(rt.alloc())?;
         let list = PathList::new([3; 16], paths)?;
         let mut table = CellTable::new([9; 512]);
         assert!(rt; long_count(&list, &mut table).is_err());

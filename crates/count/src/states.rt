@@ -4,23 +4,22 @@ ghost use Rattle.count.specs.Counts.{working_states, count_rules};
 ghost use Rattle.count.specs.Laws.{Holds};
 ghost use Rattle.count.specs.ByType.{Sorted};
 
-use crate::by_type::PlacesByType;
+use crate::by_type::{all_places, cell_index};
+use place_set::PlaceSet;
 use plan::Plan;
+use rules::by_type::ByType;
 
 // The number of states in which the plan works, cell by cell.
-pub fn count_working_states<P: Plan>(plan: &P, places: PlacesByType) -> [u16; 512]
+pub fn count_working_states<P: Plan>(plan: &P, places: ByType<PlaceSet>) -> [u16; 512]
     requires few { Allowed (count_rules (P.Plan.meaning plan.now)) }
     requires sorted { Sorted (P.Plan.meaning plan.now) places }
     ensures { Holds result (working_states (P.Plan.meaning plan.now)) }
 {
     let mut cells = [0u16; 512];
-    let whole = places.all();
-    let mut next = Some(whole);
-    while let Some(state) = next {
+    for state in all_places(places).subsets() {
         if plan.works(state) {
-            cells[places.cell(state)] += 1;
+            cells[cell_index(places, state)] += 1;
         }
-        next = state.next_subset(whole);
     }
     cells
 }

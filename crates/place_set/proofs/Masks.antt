@@ -1,7 +1,7 @@
 -- The bits of masks.
 use Rattle.std.proofs.Common.{◌≡◌, ℕ, zero, suc, ◌+◌, ◌-◌, ◌*◌, ◌/◌, ◌%◌, ◌^◌, ◌<◌, ◌≤◌, Bool, true, false, cond, not, ◌&&◌, ◌||◌, eqb, ltb, List, [], ◌∷◌, map, sym, refl, ap, ◌∙◌, ap₂, ⊎_elim, pow-suc, one-add, arith}
 use mathlib.Core.Path.{fun_ext}
-use lib.Bits.{bit_and, bit_or, and_step, and_le_l, and_shr, and_mod, or_shr, or_mod, and_mask}
+use lib.Bits.{bit_and, bit_or, and_step, and_le_l, and_shr, and_mod, or_shr, or_mod}
 use lib.Count.{ones, ones_step}
 use lib.Dec.{eqb-suc-suc, eqb-zero-suc, eqb-suc-zero}
 use Rattle.std.proofs.lemmas.Nat.{shr-shr, one_shl, pow_below}
@@ -90,9 +90,6 @@ bit_flip (suc w) m (suc i) h k =
     bit_suc (2 ^ suc w - 1 - m) i ∙ ap (λ n. bit n i) half ∙ bit_flip w (m / 2) i (omega arith) (omega arith) ∙ ap not (sym (bit_suc m i))
 
 -- the operations on sets of places
-pub members_shifted : (m i : ℕ) → eqb (bit_and (m / 2 ^ i) 1) 1 ≡ bit m i
-members_shifted m i = ap (λ n. eqb n 1) (and_mask (m / 2 ^ i) 1)
-
 pub members_and : (a b : ℕ) → bit (bit_and a b) ≡ both (bit a) (bit b)
 members_and a b = fun_ext (bits_of_and a b)
 

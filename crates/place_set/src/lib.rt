@@ -1,6 +1,7 @@
 #![tactic(auto)]
 
 ghost use Rattle.std.specs.Prelude.{◌≡◌, ℕ, ◌+◌, ◌-◌, ◌*◌, ◌/◌, ◌%◌, ◌^◌, ◌<◌, ◌≤◌, Bool, true, false, MatchOption};
+ghost use Rattle.std.specs.Option.{ForSome};
 ghost use Rattle.sums.specs.States.{put};
 ghost use Rattle.place_set.specs.Sets.{bit, members, adding, either, both, less, others, size, Within, NextBelow};
 
@@ -10,12 +11,16 @@ pub struct PlaceSet {
     mask: u16,
 }
 
-impl PlaceSet {
-    pub fn from_mask(mask: u16) -> PlaceSet
-        ensures { result.mask ≡ mask }
-    {
+impl From<u16> for PlaceSet {
+    ghost from_gives = { λ mask set. set.mask ≡ mask };
+
+    fn from(mask: u16) -> Self {
         PlaceSet { mask }
     }
+}
+
+impl PlaceSet {
+    ghost use Rattle.place_set.specs.Subsets.{subsets_of, subsets_left};
 
     pub fn contains(self, place: u8) -> bool
         ensures { result ≡ members self place }
@@ -92,16 +97,49 @@ impl PlaceSet {
         self.mask.count_ones()
     }
 
+    // The subsets of the set.
+    pub fn subsets(self) -> Subsets
+        ensures { subsets_left result ≡ subsets_of self }
+    {
+        Subsets {
+            whole: self,
+            next: Some(self),
+        }
+    }
+
     // After this subset of `whole` the next one, in falling order of masks; None after the empty set.
-    // From `whole` itself on, this comes to each of its subsets once.
-    pub fn next_subset(self, whole: PlaceSet) -> Option<PlaceSet>
+    fn next_subset(self, whole: PlaceSet) -> Option<PlaceSet>
         ensures { Within (members self) (members whole) → MatchOption result (self.mask ≡ 0) (λ t. NextBelow whole self t) }
     {
-        match self.mask.checked_sub(1) {
-            Some(below) => Some(PlaceSet {
-                mask: below & whole.mask,
-            }),
-            None => None,
-        }
+        let below = self.mask.checked_sub(1)?;
+        Some(PlaceSet {
+            mask: below & whole.mask,
+        })
+    }
+}
+
+// The subsets of a set of places that are still to come, in falling order of masks: at first the set
+// itself, and the empty set at last.
+#[derive(Debug, Drop)]
+pub struct Subsets {
+    whole: PlaceSet,
+    next: Option<PlaceSet>,
+    ghost within: { ForSome next (λ s. Within (members s) (members whole)) },
+}
+
+impl Iterator for Subsets {
+    ghost use Rattle.std.specs.Iterator.{YieldsFirst, item_count};
+    ghost use Rattle.place_set.specs.Subsets.{subsets_left};
+
+    type Item = PlaceSet;
+
+    ghost next_gives = { YieldsFirst subsets_left };
+
+    ghost remaining = { item_count subsets_left };
+
+    fn next(&mut self) -> Option<PlaceSet> {
+        let subset = self.next?;
+        self.next = subset.next_subset(self.whole);
+        Some(subset)
     }
 }

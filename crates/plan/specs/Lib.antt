@@ -3,5 +3,6 @@ pub mod Paths
 pub mod LinePlans
 pub mod Lockouts
 pub mod Piles
+pub mod PilesLemmas
 pub mod PathsLemmas
 pub mod Deciding

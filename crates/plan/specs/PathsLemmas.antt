@@ -1,17 +1,23 @@
 -- Paths, place by place and path by path.
-use Rattle.std.specs.Prelude.{◌≡◌, ℕ, zero, suc, ◌+◌, ◌<◌, ◌≤◌, Bool, true, false, not, ◌&&◌, ◌||◌, List, [], ◌∷◌, length, drop, is_some, Some, None, Option, ◌≢◌, slice_index, slice_index_or, refl}
-use Rattle.std.proofs.Common.{sym, ap, ap₂, subst, ◌∙◌, ⊎_elim, add-one, arith, drop_of_length-le, drop-cons}
+use Rattle.std.specs.Prelude.{◌≡◌, ℕ, zero, suc, ◌<◌, Bool, true, false, not, ◌||◌, List, [], ◌∷◌, length, take, is_some, Some, None, Option, Ok, Err, Result, IfOk, IfErr, ◌≢◌, slice_index, slice_index_or, refl}
+use Rattle.std.specs.Array.{AllZipBelow}
+use Rattle.std.specs.Cmp.{both_ways}
+use Rattle.std.specs.Fn.{Called}
+use Rattle.std.specs.List.{list_any, AllZip, IsAmong}
+use Rattle.std.proofs.Common.{inl, sym, ap₂, subst, ◌∙◌, ⊎_elim, arith}
+use Rattle.std.proofs.lemmas.Grind.{get_or_default_zero}
+use Rattle.std.proofs.lemmas.List.{get_or_past}
 use Rattle.std.proofs.lemmas.Bool.{true≢false, false≢true, cases_eq, cases_Bool, and_parts, and_from, or_cases, or_left, or_right}
+use denote.Param.Members.{Mut}
 use Rattle.rules.specs.declared.item_type.ItemType.{ItemType}
 use Rattle.rules.specs.declared.refusal.Refusal.{Refusal}
-use Rattle.rules.specs.Rules.{Allowed, Refused}
+use Rattle.rules.specs.Rules.{Allowed, Refused, Decided}
 use Rattle.rules.specs.Trees.{State}
-use Rattle.rules.specs.Types.{type_numbered}
 use Rattle.place_set.specs.declared.PlaceSet.{PlaceSet}
-use Rattle.place_set.specs.Sets.{members, less, Within}
+use Rattle.place_set.specs.Sets.{members, Within}
 use Rattle.plan.specs.Plans.{Agree, LawfulPlan}
-use Rattle.plan.specs.Paths.{type_at, all_below, covers, some_path, plan_of_paths, all_filled, path_rules, each_path}
-use Rattle.plan.specs.Deciding.{allowed_append, refused_first, refused_after}
+use Rattle.plan.specs.Paths.{PlaceTyped, types_of, type_at, all_below, covers, plan_of_paths, all_filled, type_rules, path_rules, each_path}
+use Rattle.plan.specs.Deciding.{refused_first, refused_after}
 
 abbrev pub no_place : PlaceSet
 no_place = record { mask = 0 }
@@ -30,22 +36,8 @@ all_at p (suc n) k h lt =
 pub all_fails : (p : ℕ → Bool) (n k : ℕ) → k < n → p k ≡ false → all_below n p ≡ false
 all_fails p n k lt off = ⊎_elim (λ on. absurd (true≢false (sym (all_at p n k on lt) ∙ off))) (λ e. e) (cases_Bool (all_below n p))
 
--- a place is covered where it is not left over
-left_none : (x y : Bool) → (x && not y) ≡ false → (not x || y) ≡ true
-left_none true true e = refl
-left_none true false e = absurd (true≢false e)
-left_none false y e = refl
-
-left_one : (x y : Bool) → (x && not y) ≡ true → (not x || y) ≡ false
-left_one true true e = absurd (false≢true e)
-left_one true false e = refl
-left_one false y e = absurd (false≢true e)
-
-pub covers_from : (path : PlaceSet) (s : State) → ((k : ℕ) → k < 16 → less (members path) s k ≡ false) → covers s path ≡ true
-covers_from path s h = all_from (λ i. not (members path i) || s i) 16 (λ k lt. left_none (members path k) (s k) (h k lt))
-
-pub covers_fails : (path : PlaceSet) (s : State) (k : ℕ) → k < 16 → less (members path) s k ≡ true → covers s path ≡ false
-covers_fails path s k lt e = all_fails (λ i. not (members path i) || s i) 16 k lt (left_one (members path k) (s k) e)
+pub covers_fails : (path : PlaceSet) (s : State) (k : ℕ) → k < 16 → members path k ≡ true → s k ≡ false → covers s path ≡ false
+covers_fails path s k lt on off = all_fails (λ i. not (members path i) || s i) 16 k lt (ap₂ (λ x y. not x || y) on off)
 
 -- a covered place that the path names
 named : (x y : Bool) → (not x || y) ≡ true → x ≡ true → y ≡ true
@@ -62,62 +54,34 @@ covers_named path s h = all_from (λ i. not (members path i) || s i) 16 (λ k lt
     at true y f = f refl
     at false y f = refl
 
--- the paths from i on
-rest_of : (paths : List PlaceSet) (i : ℕ) → i < length paths → drop i paths ≡ slice_index_or paths i no_place ∷ drop (i + 1) paths
-rest_of paths i lt = drop-cons paths i no_place lt ∙ ap (λ n. slice_index_or paths i no_place ∷ drop n paths) (sym (add-one i))
-
-pub some_skip : (paths : List PlaceSet) (s : State) (i : ℕ) → i < length paths → covers s (slice_index_or paths i no_place) ≡ false → some_path (drop i paths) s ≡ some_path (drop (i + 1) paths) s
-some_skip paths s i lt e = ap (λ ps. some_path ps s) (rest_of paths i lt) ∙ ap (λ b. b || some_path (drop (i + 1) paths) s) e
-
-pub some_hit : (paths : List PlaceSet) (s : State) (i : ℕ) → i < length paths → covers s (slice_index_or paths i no_place) ≡ true → some_path (drop i paths) s ≡ true
-some_hit paths s i lt e = ap (λ ps. some_path ps s) (rest_of paths i lt) ∙ ap (λ b. b || some_path (drop (i + 1) paths) s) e
-
-pub some_end : (paths : List PlaceSet) (s : State) (i : ℕ) → length paths ≤ i → some_path (drop i paths) s ≡ false
-some_end paths s i h = rw (drop_of_length-le paths)
-
 -- the laws
-some_monotone : (paths : List PlaceSet) (s t : State) → Within s t → some_path paths s ≡ true → some_path paths t ≡ true
+some_monotone : (paths : List PlaceSet) (s t : State) → Within s t → list_any (covers s) paths ≡ true → list_any (covers t) paths ≡ true
 some_monotone [] s t w h = h
 some_monotone (path ∷ paths) s t w h =
     ⊎_elim
-    (λ e. or_left (covers t path) (some_path paths t) (covers_named path t (λ k lt on. w k (covers_at path s k e lt on))))
-    (λ e. or_right (covers t path) (some_path paths t) (some_monotone paths s t w e))
-    (or_cases (covers s path) (some_path paths s) h)
-
--- two tests that pass alike are equal
-alike : (x y : Bool) → (x ≡ true → y ≡ true) → (y ≡ true → x ≡ true) → x ≡ y
-alike true y f g = sym (f refl)
-alike false true f g = g refl
-alike false false f g = refl
+    (λ e. or_left (covers t path) (list_any (covers t) paths) (covers_named path t (λ k lt on. w k (covers_at path s k e lt on))))
+    (λ e. or_right (covers t path) (list_any (covers t) paths) (some_monotone paths s t w e))
+    (or_cases (covers s path) (list_any (covers s) paths) h)
 
 filled_some : (o : Option ItemType) → is_some o ≡ true → o ≢ None
-filled_some None h e = false≢true h
-filled_some (Some t) h e = true≢false (ap is_some e)
+filled_some o h e = cc
 
-some_empty : (numbers : List ℕ) (paths : List PlaceSet) → all_filled numbers paths ≡ true → (s t : State) → Agree (type_at numbers) s t → some_path paths s ≡ some_path paths t
-some_empty numbers [] f s t same = refl
-some_empty numbers (path ∷ paths) f s t same =
-    let both = and_parts (covers (λ i. is_some (type_at numbers i)) path) (all_filled numbers paths) f in
-    let at : (k : ℕ) → k < 16 → members path k ≡ true → s k ≡ t k = λ k lt on. same k (filled_some (type_at numbers k) (covers_at path (λ i. is_some (type_at numbers i)) k both.0 lt on)) in
+some_empty : (types : List (Option ItemType)) (paths : List PlaceSet) → all_filled types paths ≡ true → (s t : State) → Agree (type_at types) s t → list_any (covers s) paths ≡ list_any (covers t) paths
+some_empty types [] f s t same = refl
+some_empty types (path ∷ paths) f s t same =
+    let both = and_parts (covers (λ i. is_some (type_at types i)) path) (all_filled types paths) f in
+    let at : (k : ℕ) → k < 16 → members path k ≡ true → s k ≡ t k = λ k lt on. same k (filled_some (type_at types k) (covers_at path (λ i. is_some (type_at types i)) k both.0 lt on)) in
     let here : covers s path ≡ covers t path =
-    alike (covers s path) (covers t path)
+    both_ways (covers s path) (covers t path)
     (λ e. covers_named path t (λ k lt on. sym (at k lt on) ∙ covers_at path s k e lt on))
     (λ e. covers_named path s (λ k lt on. at k lt on ∙ covers_at path t k e lt on)) in
-    ap₂ ◌||◌ here (some_empty numbers paths both.1 s t same)
+    ap₂ ◌||◌ here (some_empty types paths both.1 s t same)
 
-pub type_above : (numbers : List ℕ) (i : ℕ) → length numbers ≡ 16 → 16 ≤ i → type_at numbers i ≡ None
-type_above numbers i e h = ap type_numbered (none numbers i (omega arith))
-  where
-    none : (xs : List ℕ) (i : ℕ) → length xs ≤ i → slice_index xs i ≡ 0
-    none [] i h = refl
-    none (x ∷ xs) zero h = absurd (omega arith)
-    none (x ∷ xs) (suc i) h = none xs i (omega arith)
-
-pub path_list_lawful : (numbers : List ℕ) (paths : List PlaceSet) → length numbers ≡ 16 → all_filled numbers paths ≡ true → LawfulPlan (plan_of_paths numbers paths)
-path_list_lawful numbers paths long filled = record {
+pub path_list_lawful : (types : List (Option ItemType)) (paths : List PlaceSet) → length types ≡ 16 → all_filled types paths ≡ true → LawfulPlan (plan_of_paths types paths)
+path_list_lawful types paths long filled = record {
   monotone = some_monotone paths;
-  empty = some_empty numbers paths filled;
-  above = λ i. type_above numbers i long;
+  empty = some_empty types paths filled;
+  above = λ i high. get_or_past types i None (omega arith);
 }
 
 -- path by path
@@ -125,32 +89,52 @@ some_type : (o : Option ItemType) → (o ≢ None) → is_some o ≡ true
 some_type None h = absurd (h refl)
 some_type (Some t) h = refl
 
-pub allowed_filled : (numbers : List ℕ) (paths : List PlaceSet) → Allowed (each_path numbers paths) → all_filled numbers paths ≡ true
-allowed_filled numbers [] a = refl
-allowed_filled numbers (path ∷ paths) a =
-    and_from (covers (λ i. is_some (type_at numbers i)) path) (all_filled numbers paths)
-    (covers_named path (λ i. is_some (type_at numbers i)) (λ k lt on. some_type (type_at numbers k) (λ e. a.1.0 (k, on, e))))
-    (allowed_filled numbers paths a.1.1)
+pub allowed_filled : (types : List (Option ItemType)) (paths : List PlaceSet) → Allowed (each_path types paths) → all_filled types paths ≡ true
+allowed_filled types [] a = refl
+allowed_filled types (path ∷ paths) a =
+    and_from (covers (λ i. is_some (type_at types i)) path) (all_filled types paths)
+    (covers_named path (λ i. is_some (type_at types i)) (λ k lt on. some_type (type_at types k) (λ e. a.1.0 (k, on, e))))
+    (allowed_filled types paths a.1.1)
 
--- what is decided of the paths from i on is decided of all
-abbrev pub DecidesAll : List ℕ → List PlaceSet → ℕ → Type 0
-DecidesAll numbers paths i =
-    ((e : Refusal) → Refused (each_path numbers (drop i paths)) e → Refused (each_path numbers paths) e)
-    × (Allowed (each_path numbers (drop i paths)) → Allowed (each_path numbers paths))
+-- where the paths before the path i are allowed, it decides
+pub refused_at : (types : List (Option ItemType)) (paths : List PlaceSet) (i : ℕ) (e : Refusal) → i < length paths → Allowed (each_path types (take i paths))
+    → Refused (path_rules types (slice_index_or paths i no_place)) e → Refused (each_path types paths) e
+refused_at types [] i e lt a x = absurd (omega arith)
+refused_at types (path ∷ paths) zero e lt a x = refused_first (path_rules types path) (each_path types paths) e x
+refused_at types (path ∷ paths) (suc i) e lt a x =
+    refused_after (path_rules types path) (each_path types paths) e (a.0, (a.1.0, tt)) (refused_at types paths i e (omega arith) a.1.1 x)
 
-module _ (numbers : List ℕ) (paths : List PlaceSet) (i : ℕ) (decides : DecidesAll numbers paths i) (lt : i < length paths) where
-  abbrev path : PlaceSet
-  path = slice_index_or paths i no_place
+pub allowed_more : (types : List (Option ItemType)) (paths : List PlaceSet) (i : ℕ) → i < length paths → Allowed (each_path types (take i paths))
+    → Allowed (path_rules types (slice_index_or paths i no_place)) → Allowed (each_path types (take (suc i) paths))
+allowed_more types [] i lt a b = absurd (omega arith)
+allowed_more types (path ∷ paths) zero lt a b = b
+allowed_more types (path ∷ paths) (suc i) lt a b = (a.0, (a.1.0, allowed_more types paths i (omega arith) a.1.1 b))
 
-  pub refused_here : (e : Refusal) → Refused (path_rules numbers path) e → Refused (each_path numbers paths) e
-  refused_here e x =
-      decides.0 e (subst (λ ps. Refused (each_path numbers ps) e) (sym (rest_of paths i lt)) (refused_first (path_rules numbers path) (each_path numbers (drop (i + 1) paths)) e x))
+-- what a call answers of each number decides of all
+module _ {F : Type 0} {call : Mut F (ℕ × Unit {0}) (Result (Option ItemType) Refusal)} (typed : (n : ℕ) (r : Result (Option ItemType) Refusal) (p q : F) → Called call p (n, tt) r q → PlaceTyped n r) where
+  abbrev Gives : ℕ → Option ItemType → Type 0
+  Gives n t = (p : F) × (q : F) × Called call p (n, tt) (Ok t) q
 
-  pub decides_more : Allowed (path_rules numbers path) → DecidesAll numbers paths (i + 1)
-  decides_more a = (
-    λ e x. decides.0 e (subst (λ ps. Refused (each_path numbers ps) e) (sym (rest_of paths i lt)) (refused_after (path_rules numbers path) (each_path numbers (drop (i + 1) paths)) e a x)),
-    λ b. decides.1 (subst (λ ps. Allowed (each_path numbers ps)) (sym (rest_of paths i lt)) (allowed_append (path_rules numbers path) (each_path numbers (drop (i + 1) paths)) a b)),
+  types_given : (numbers : List ℕ) (types : List (Option ItemType)) → AllZip Gives numbers types → types ≡ types_of numbers
+  types_given [] [] all = refl
+  types_given [] (t ∷ types) all = absurd all
+  types_given (n ∷ numbers) [] all = absurd all
+  types_given (n ∷ numbers) (t ∷ types) all = let one = all.0 in ap₂ ◌∷◌ (typed n (Ok t) one.0 one.1 one.2).1 (types_given numbers types all.1)
+
+  pub types_decided : (numbers : List ℕ) (r : Result (List (Option ItemType)) Refusal) → length numbers ≡ 16
+      → IfOk r (λ types. AllZipBelow Gives numbers types 16)
+      → IfErr r (λ e. (n : ℕ) × IsAmong numbers n × (p : F) × (q : F) × Called call p (n, tt) (Err e) q)
+      → Decided (type_rules numbers) (λ types. types ≡ types_of numbers) r
+  types_decided numbers (Ok types) long all none = (
+    (
+      λ fault.
+          let one = all.at fault.0 0 None fault.1 in
+          omega (arith, fault.2, (typed (slice_index numbers fault.0) (Ok (slice_index_or types fault.0 None)) one.0 one.1 one.2).0),
+      tt,
+    ),
+    types_given numbers types all.whole,
   )
-
-pub decided_end : (numbers : List ℕ) (paths : List PlaceSet) (i : ℕ) → DecidesAll numbers paths i → length paths ≤ i → Allowed (each_path numbers paths)
-decided_end numbers paths i decides le = decides.1 (subst (λ ps. Allowed (each_path numbers ps)) (sym (drop_of_length-le paths le)) tt)
+  types_decided numbers (Err e) long none one =
+      let high = typed one.0 (Err e) one.2 one.3 one.4 in
+      let i = one.1.0 in
+      inl ((i, omega (arith, one.1.1.0), omega (arith, high.0, one.1.1.1, get_or_default_zero numbers i one.0 one.1.1.0)), high.1)

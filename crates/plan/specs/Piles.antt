@@ -1,14 +1,15 @@
 -- Lockouts and mirrors in a pile over a plan.
-use Rattle.std.specs.Prelude.{ℕ, List, [], ◌∷◌}
+use Rattle.std.specs.Prelude.{List, [], ◌∷◌}
+use Rattle.plan.specs.declared.pile.Layer.{Layer}
+use Rattle.plan.specs.declared.pile.Layer.TheVariants.{Lockout, Mirror}
 use Rattle.plan.specs.Plans.{Structure, locked_out, mirrored}
 
--- a lockout of a place, or a mirror
-pub data Layer : Type 0 where
-  lockout : ℕ → Layer
-  mirror : Layer
+-- the layer over the plan p
+abbrev pub layered : Layer → Structure → Structure
+layered (Lockout l) p = locked_out l.place p
+layered Mirror p = mirrored p
 
--- the layers over the plan p, the topmost first
+-- the layers over the plan p, the lowest first
 abbrev pub piled : List Layer → Structure → Structure
 piled [] p = p
-piled (lockout i ∷ ls) p = locked_out i (piled ls p)
-piled (mirror ∷ ls) p = mirrored (piled ls p)
+piled (layer ∷ layers) p = piled layers (layered layer p)

@@ -3,6 +3,7 @@
 pub mod lockout;
 pub mod mirror;
 pub mod path_list;
+pub mod pile;
 
 ghost use Rattle.std.specs.Prelude.{◌≡◌};
 ghost use Rattle.place_set.specs.Sets.{members};
@@ -33,6 +34,7 @@ mod tests {
     use crate::lockout::{LockedPlace, Lockout};
     use crate::mirror::Mirror;
     use crate::path_list::PathList;
+    use crate::pile::{Layer, Pile};
     use rules::refusal::Refusal;
     use std::test::Fail;
 
@@ -41,18 +43,18 @@ mod tests {
     // The paths {0, 1} and {2}, mirrored, with the place 2 locked out, and mirrored again.
     #[test]
     fn pile(rt: HostRuntime) -> Result<(), Fail> {
-        let paths = [PlaceSet::from_mask(3), PlaceSet::from_mask(4)].to_vec(rt.alloc())?;
+        let paths = [PlaceSet::from(3), PlaceSet::from(4)].to_vec(rt.alloc())?;
         let list = PathList::new(NUMBERS, paths)?;
         assert_eq!(rt; list.item_type(1), Some(ItemType::One));
         assert_eq!(rt; list.item_type(2), Some(ItemType::Two));
         assert_eq!(rt; list.item_type(3), None);
         assert_eq!(rt; list.item_type(16), None);
-        assert_eq!(rt; list.works(PlaceSet::from_mask(3)), true);
-        assert_eq!(rt; list.works(PlaceSet::from_mask(4)), true);
-        assert_eq!(rt; list.works(PlaceSet::from_mask(1)), false);
+        assert_eq!(rt; list.works(PlaceSet::from(3)), true);
+        assert_eq!(rt; list.works(PlaceSet::from(4)), true);
+        assert_eq!(rt; list.works(PlaceSet::from(1)), false);
         let mirror = Mirror { plan: list };
-        assert_eq!(rt; mirror.works(PlaceSet::from_mask(3)), false);
-        assert_eq!(rt; mirror.works(PlaceSet::from_mask(5)), true);
+        assert_eq!(rt; mirror.works(PlaceSet::from(3)), false);
+        assert_eq!(rt; mirror.works(PlaceSet::from(5)), true);
         let locked = LockedPlace::new(0)?;
         let pile = Mirror {
             plan: Lockout {
@@ -61,8 +63,46 @@ mod tests {
             },
         };
         assert_eq!(rt; pile.item_type(2), Some(ItemType::Two));
-        assert_eq!(rt; pile.works(PlaceSet::from_mask(2)), true);
-        assert_eq!(rt; pile.works(PlaceSet::from_mask(1)), false);
+        assert_eq!(rt; pile.works(PlaceSet::from(2)), true);
+        assert_eq!(rt; pile.works(PlaceSet::from(1)), false);
+        Ok(())
+    }
+
+    // A pile as one value answers as the types that are laid one over another.
+    #[test]
+    fn layers(rt: HostRuntime) -> Result<(), Fail> {
+        let paths = [PlaceSet::from(3), PlaceSet::from(4)];
+        let locked = LockedPlace::new(0)?;
+        let nested = Mirror {
+            plan: Lockout {
+                plan: Mirror {
+                    plan: PathList::new(NUMBERS, paths.to_vec(rt.alloc())?)?,
+                },
+                locked,
+            },
+        };
+        let layers = [Layer::Mirror, Layer::Lockout(locked), Layer::Mirror];
+        let pile = Pile {
+            plan: PathList::new(NUMBERS, paths.to_vec(rt.alloc())?)?,
+            layers: layers.to_vec(rt.alloc())?,
+        };
+        for place in 0..=16 {
+            assert_eq!(rt; pile.item_type(place), nested.item_type(place));
+        }
+        for mask in 0..8 {
+            let state = PlaceSet::from(mask);
+            assert_eq!(rt; pile.works(state), nested.works(state));
+        }
+        let locked_first = Pile {
+            plan: PathList::new(NUMBERS, paths.to_vec(rt.alloc())?)?,
+            layers: layers[1..].to_vec(rt.alloc())?,
+        };
+        assert_eq!(rt; locked_first.works(PlaceSet::from(4)), true);
+        let mirrored_first = Pile {
+            plan: PathList::new(NUMBERS, paths.to_vec(rt.alloc())?)?,
+            layers: layers[..2].to_vec(rt.alloc())?,
+        };
+        assert_eq!(rt; mirrored_first.works(PlaceSet::from(4)), false);
         Ok(())
     }
 
@@ -70,40 +110,25 @@ mod tests {
     fn refusals(rt: HostRuntime) -> Result<(), Fail> {
         let mut wrong = NUMBERS;
         wrong[9] = 4;
-        let none = [PlaceSet::from_mask(0)];
-        assert!(rt;
-            refused(
-                PathList::new(wrong, Vec::new(rt.alloc())),
-                Refusal::UnknownType,
-            )
+        let none = [PlaceSet::from(0)];
+        assert_eq!(rt;
+            PathList::new(wrong, Vec::new(rt.alloc())).err(),
+            Some(Refusal::UnknownType)
         );
-        assert!(rt;
-            refused(
-                PathList::new(NUMBERS, Vec::new(rt.alloc())),
-                Refusal::NoPath,
-            )
+        assert_eq!(rt;
+            PathList::new(NUMBERS, Vec::new(rt.alloc())).err(),
+            Some(Refusal::NoPath)
         );
-        assert!(rt;
-            refused(
-                PathList::new(NUMBERS, none.to_vec(rt.alloc())?),
-                Refusal::EmptyPath,
-            )
+        assert_eq!(rt;
+            PathList::new(NUMBERS, none.to_vec(rt.alloc())?).err(),
+            Some(Refusal::EmptyPath)
         );
-        let empty = [PlaceSet::from_mask(3), PlaceSet::from_mask(8)];
-        assert!(rt;
-            refused(
-                PathList::new(NUMBERS, empty.to_vec(rt.alloc())?),
-                Refusal::EmptyPlace,
-            )
+        let empty = [PlaceSet::from(3), PlaceSet::from(8)];
+        assert_eq!(rt;
+            PathList::new(NUMBERS, empty.to_vec(rt.alloc())?).err(),
+            Some(Refusal::EmptyPlace)
         );
         assert!(rt; LockedPlace::new(16).is_err());
         Ok(())
-    }
-
-    fn refused(made: Result<PathList, Refusal>, refusal: Refusal) -> bool {
-        match made {
-            Ok(_) => false,
-            Err(found) => found == refusal,
-        }
     }
 }

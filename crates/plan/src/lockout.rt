@@ -9,9 +9,9 @@ use rules::item_type::ItemType;
 use rules::refusal::Refusal;
 
 // A place from 0 to 15 that is to be locked out. It is checked before a plan goes into a lockout.
-#[derive(Clone, Copy)]
+#[derive(Clone, Copy, PartialEq, Eq, Debug)]
 pub struct LockedPlace {
-    place: u8,
+    pub(crate) place: u8,
 }
 
 impl LockedPlace {

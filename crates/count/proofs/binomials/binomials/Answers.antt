@@ -1,16 +1,14 @@
-use Rattle.std.proofs.Common.{◌-◌, ◌∙◌, arith, length-set}
-use Rattle.count.proofs.Choosing.{choose_small, row_old, row_more}
+use Rattle.std.proofs.Common.{◌+◌, ◌-◌, ◌≤◌, get_or, arith, rules}
+use Rattle.count.proofs.Choosing.{choose_small}
+use Rattle.cells.proofs.Filling.{fill_serves}
 use Rattle.count.proofs.binomials.binomials.Goals as goal
 
-pub overflow_add-row : goal.overflow_add-row
-overflow_add-row c =
-    let k = c.loop-k.k in
-    let n = c.loop-above.above in
-    let old = row_old c.loop-k.row n k c.loop-k.invariant.0 c.loop-k.invariant.1 in
-    omega (arith, old (k - 1) (omega arith) (omega arith), old (k - 1 - 1) (omega arith) (omega arith), choose_small n (k - 1) (omega arith), choose_small n (k - 1 - 1) (omega arith))
-
-pub loop-k-preserved : goal.loop-k-preserved
-loop-k-preserved c = (
-  length-set c.loop-k.row (c.loop-k.k - 1) _ ∙ c.loop-k.invariant.0,
-  row_more c.loop-k.row c.loop-above.above c.loop-k.k c.loop-k.invariant.0 c.loop-k.invariant.1 (omega arith) (omega arith),
+pub from_fn-row-requires : goal.from_fn-row-requires
+from_fn-row-requires c = (
+  omega arith,
+  fill_serves 8 (λ x q r. search rules) (λ x lt.
+      let below = c.loop-above.invariant.1 (x - 1) (omega arith) in
+      let here = c.loop-above.invariant.1 x lt in
+      let small : get_or c.loop-above.row (x - 1) 0 + get_or c.loop-above.row x 0 ≤ 70 = omega (arith, below, here, choose_small c.loop-above.above (x - 1) (omega arith), choose_small c.loop-above.above x (omega arith)) in
+      search (rules, small) parts 8),
 )

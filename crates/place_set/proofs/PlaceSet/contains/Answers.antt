@@ -1,10 +1,7 @@
 use Rattle.std.proofs.Common.{sym, ◌∙◌, arith}
 use Rattle.std.proofs.lemmas.Bool.{le-ltb}
-use Rattle.place_set.proofs.Masks.{members_shifted, bit_above}
+use Rattle.place_set.proofs.Masks.{bit_above}
 use Rattle.place_set.proofs.PlaceSet.contains.Goals as goal
-
-pub returns-then-place-lt16 : goal.returns-then-place-lt16
-returns-then-place-lt16 c = members_shifted c.args.self.mask c.args.place
 
 pub returns-else-place-lt16 : goal.returns-else-place-lt16
 returns-else-place-lt16 c =

@@ -4,10 +4,7 @@ use Rattle.place_set.specs.Sets.{NextBelow}
 use Rattle.place_set.proofs.Masks.{next_below}
 use Rattle.place_set.proofs.PlaceSet.next_subset.Goals as goal
 
-pub returns-in-Some : goal.returns-in-Some
-returns-in-Some c within =
-    let told = c.in-Some.ensures in
+pub returns : goal.returns
+returns c within =
+    let told = c.in_ok-below.ensures in
     subst (λ n. NextBelow c.args.whole c.args.self (record { mask = bit_and n c.args.whole.mask })) (sym told.1) (next_below c.args.whole c.args.self (omega arith) told.0 within)
-
-pub returns-in-None : goal.returns-in-None
-returns-in-None c within = omega (arith, c.in-None.ensures)

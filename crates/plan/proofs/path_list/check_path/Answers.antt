@@ -1,7 +1,7 @@
 use Rattle.std.proofs.Common.{sym, ◌∙◌, ⊎_elim, arith}
 use Rattle.std.proofs.lemmas.Bool.{true≢false, cases_lt}
 use Rattle.place_set.proofs.Masks.{bit_above}
-use Rattle.plan.proofs.path_list.making.check_path.Goals as goal
+use Rattle.plan.proofs.path_list.check_path.Goals as goal
 
 pub returns : goal.returns
 returns c =
