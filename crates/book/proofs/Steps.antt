@@ -1,9 +1,10 @@
 -- What calls find in a table, and make of it, told by the history that it holds.
-use Rattle.std.proofs.Common.{◌≡◌, ℕ, suc, ◌+◌, ◌<◌, ◌≤◌, true, false, ◌⊎◌, List, [], ◌∷◌, ◌++◌, length, get_or, is_some, Some, None, vec_items, count_by, Option, sym, refl, ap, ◌∙◌, subst, inl, inr, ⊎_elim, add-one, arith}
-use mathlib.Core.Logic.{∥∥₁_elim}
+use Rattle.std.proofs.Common.{◌≡◌, ℕ, suc, ◌+◌, ◌<◌, ◌≤◌, Bool, true, false, ◌⊎◌, List, [], ◌∷◌, ◌++◌, length, get_or, is_some, not, Some, None, vec_items, count_by, Result, Ok, Err, MatchResult, sym, refl, ap, ◌∙◌, subst, inl, inr, ⊎_elim, add-one, arith, rules}
+use mathlib.Core.Logic.{∥∥₁_elim, ∥∥₁_map}
 use native.Mathlib.Bridge.{le_prop}
 use Rattle.std.specs.List.{remove}
-use Rattle.std.proofs.lemmas.Bool.{cases_lt, both_ways, and_left}
+use Rattle.std.proofs.lemmas.Bool.{cases_lt, and_left}
+use Rattle.rules.specs.declared.change.Change.{Change}
 use Rattle.rules.specs.declared.change.Change.TheVariants.{Issue, Join, Withdraw}
 use Rattle.rules.specs.declared.item_type.ItemType.{ItemType}
 use Rattle.rules.specs.declared.kind.Kind.{Kind}
@@ -12,24 +13,22 @@ use Rattle.rules.specs.declared.line.Part.{Part}
 use Rattle.rules.specs.declared.line.Part.TheVariants.{Item, Block}
 use Rattle.rules.specs.declared.part_number.PartNumber.{PartNumber}
 use Rattle.rules.specs.declared.refusal.Refusal.{Refusal}
-use Rattle.rules.specs.declared.refusal.Refusal.TheVariants.{Withdrawn, BuiltIn}
+use Rattle.rules.specs.declared.refusal.Refusal.TheVariants.{Withdrawn}
 use Rattle.rules.specs.Types.{type_number, type_numbered}
 use Rattle.rules.specs.Tables.{no_line, marked, At, Missing, Released}
 use Rattle.rules.specs.History.{History, given, standing, is_built_in, free, is_item, is_item_of, items_standing, items_of_type, line_of, lines_of}
 use Rattle.rules.specs.Rules.{Allowed, Refused}
-use Rattle.rules.specs.Ruled.{naming, using_line, joining, change_rules, Lawful}
+use Rattle.rules.specs.Ruled.{naming, using_line, change_rules, QuestionRuled, Lawful}
 use Rattle.rules.proofs.Sound.{sound, joinable}
-use Rattle.rules.proofs.Tables.{line, line_there, part_there, not_there, issue_lines, join_lines, item_out, block_out}
+use Rattle.rules.proofs.Tables.{line_there, part_there, not_there, issue_lines, join_lines, item_out, block_out}
 use Rattle.rules.proofs.Limits.{type_of_number, lines_count, issue_room, join_room, few_lines, few_given}
 use Rattle.book.specs.declared.book.Book.{Book}
-use Rattle.book.specs.Kept.{Holds}
-use Rattle.book.specs.Keeps.{Keeps}
-use Rattle.book.specs.Tables.{item_line, item_line_of}
+use Rattle.book.specs.Kept.{Holds, Kept}
+use Rattle.book.specs.Keeps.{Keeps, Tells}
+use Rattle.book.specs.Tables.{item_line, item_line_of, free_line, Rising}
+use Rattle.book.proofs.Order.{rising_lines}
 
-pub some_not_none : {X : Type 0} (o : Option X) (x : X) → o ≡ Some x → o ≡ None → ⊥
-some_not_none o x e f = let z : ◌≡◌ {A = ℕ} 0 1 = cc in omega arith
-
-module _ (h : History) (xs : List Line) (n : ℕ) (k : Holds h xs n) where
+module _ {h : History} {xs : List Line} {n : ℕ} (k : Holds h xs n) where
   pub items_are : count_by item_line xs ≡ items_standing h
   items_are = ap (count_by item_line) k.lines ∙ lines_count is_item refl h
 
@@ -40,27 +39,15 @@ module _ (h : History) (xs : List Line) (n : ℕ) (k : Holds h xs n) where
       ∙ ap (λ (v : ℕ). items_of_type v h) (type_of_number t u e)
 
   -- an issue
-  pub issue_allowed : (t : ℕ) (u : ItemType) → type_numbered t ≡ Some u → count_by item_line xs < 16 → count_by (item_line_of (type_number u)) xs < 7 → n < 9999 → Allowed (change_rules h (Issue t))
-  issue_allowed t u e few is_of_type low = (
-    some_not_none _ u e,
-    (
-      (λ w. omega (arith, items_are)),
-      (
-        (λ w. omega (arith, of_type_are t u e)),
-        ((λ w. omega (arith, k.last)), tt),
-      ),
-    ),
-  )
-
   pub issue_step : (t m : ℕ) (u : ItemType) (ys : List Line) → Allowed (change_rules h (Issue t)) → type_numbered t ≡ Some u
-      → m ≡ n + 1 → ys ≡ xs ++ line m (Item u) false ∷ [] → Holds (Issue t ∷ h) ys (n + 1)
+      → m ≡ n + 1 → ys ≡ xs ++ free_line m (Item u) ∷ [] → Holds (Issue t ∷ h) ys m
   issue_step t m u ys allowed e new added =
-      let next : n + 1 ≡ suc (given h) = add-one n ∙ ap suc k.last in
+      let next : m ≡ suc (given h) = new ∙ add-one n ∙ ap suc k.last in
       record {
         lawful = (allowed, k.lawful);
         lines = added
-            ∙ ap (λ (zs : List Line). zs ++ line m (Item u) false ∷ []) k.lines
-            ∙ ap (λ (i : ℕ). lines_of h ++ line i (Item u) false ∷ []) (new ∙ next)
+            ∙ ap (λ (zs : List Line). zs ++ free_line m (Item u) ∷ []) k.lines
+            ∙ ap (λ (i : ℕ). lines_of h ++ free_line i (Item u) ∷ []) next
             ∙ sym (issue_lines h t u k.lawful e);
         last = next;
       }
@@ -90,7 +77,7 @@ module _ (h : History) (xs : List Line) (n : ℕ) (k : Holds h xs n) where
   stands_at m i a = let b = at_lines m i a in part_there (standing h) (is_built_in h) (given h) i m b.0 b.1
 
   pub name_there : (m i : ℕ) → 0 < m → m ≤ n → At xs m i → Allowed (naming h m)
-  name_there m i pos le a = (within m pos le, (some_not_none _ _ (stands_at m i a).0, tt))
+  name_there m i pos le a = let there = (stands_at m i a).0 in (within m pos le, ((λ none. cc), tt))
 
   pub mark_there : (m i : ℕ) → At xs m i → is_built_in h m ≡ (get_or xs i no_line).built_in
   mark_there m i a = (stands_at m i a).1 ∙ ap (λ (ys : List Line). (get_or ys i no_line).built_in) (sym k.lines)
@@ -101,20 +88,17 @@ module _ (h : History) (xs : List Line) (n : ℕ) (k : Holds h xs n) where
       line_there (standing h) (is_built_in h) (given h) i m b.0 b.1 ∙ ap (λ (ys : List Line). Some (get_or ys i no_line)) (sym k.lines)
 
   -- a joining
-  pub join_allowed : (a b : ℕ) → Allowed (using_line h a) → Allowed (using_line h b) → (a ≡ b → ⊥) → n < 9999 → Allowed (joining h a b)
-  join_allowed a b p q ne low = (p.0, (p.1.0, (p.1.1.0, (q.0, (q.1.0, (q.1.1.0, (ne, ((λ w. omega (arith, k.last)), tt))))))))
-
   pub join_step : (j : Kind) (a b : PartNumber) (i l m : ℕ) (ys zs us : List Line) → Allowed (change_rules h (Join j a b)) → At xs a.value i → At xs b.value l
-      → m ≡ n + 1 → ys ≡ marked xs i true → zs ≡ marked ys l true → us ≡ zs ++ line m (Block j a b) false ∷ [] → Holds (Join j a b ∷ h) us (n + 1)
+      → m ≡ n + 1 → ys ≡ marked xs i true → zs ≡ marked ys l true → us ≡ zs ++ free_line m (Block j a b) ∷ [] → Holds (Join j a b ∷ h) us m
   join_step j a b i l m ys zs us allowed p q new first second added =
-      let next : n + 1 ≡ suc (given h) = add-one n ∙ ap suc k.last in
+      let next : m ≡ suc (given h) = new ∙ add-one n ∙ ap suc k.last in
       let pa = at_lines a.value i p in
       let pb = at_lines b.value l q in
       record {
         lawful = (allowed, k.lawful);
         lines = added
-            ∙ ap (λ (ws : List Line). ws ++ line m (Block j a b) false ∷ []) (second ∙ ap (λ (ws : List Line). marked ws l true) (first ∙ ap (λ (ws : List Line). marked ws i true) k.lines))
-            ∙ ap (λ (o : ℕ). marked (marked (lines_of h) i true) l true ++ line o (Block j a b) false ∷ []) (new ∙ next)
+            ∙ ap (λ (ws : List Line). ws ++ free_line m (Block j a b) ∷ []) (second ∙ ap (λ (ws : List Line). marked ws l true) (first ∙ ap (λ (ws : List Line). marked ws i true) k.lines))
+            ∙ ap (λ (o : ℕ). marked (marked (lines_of h) i true) l true ++ free_line o (Block j a b) ∷ []) next
             ∙ sym (join_lines h j a b i l (allowed, k.lawful) pa.0 pa.1 pb.0 pb.1);
         last = next;
       }
@@ -146,16 +130,18 @@ module _ (h : History) (xs : List Line) (n : ℕ) (k : Holds h xs n) where
         last = k.last;
       }
 
--- a line that may be named is free, or built in
-pub use_allowed : (h : History) (m : ℕ) → Allowed (naming h m) → is_built_in h m ≡ false → Allowed (using_line h m)
-use_allowed h m a off = (a.0, (a.1.0, ((λ on. both_ways (is_built_in h m) off on), tt)))
-
-pub use_refused : (h : History) (m : ℕ) → Allowed (naming h m) → is_built_in h m ≡ true → Refused (using_line h m) BuiltIn
-use_refused h m a on = inr (a.0, inr (a.1.0, inl (on, refl)))
-
 -- what holds of every history that a book keeps, and says nothing of it, holds
 pub kept_bound : (v : Book) (a b : ℕ) → ((h : History) → Keeps h v → a ≤ b) → a ≤ b
 kept_bound v a b f = ∥∥₁_elim v.kept (λ x y. le_prop x y) (λ k. f k.0 k.1)
+
+-- a change that joins each history that a book keeps leaves what some history has
+pub kept_step : (v : Book) (d : Change) (xs : List Line) (n : ℕ) → Tells v (λ h. Holds (d ∷ h) xs n) → Kept xs n
+kept_step v d xs n step = ∥∥₁_map v.kept (λ k. (d ∷ k.0, step k.0 k.1))
+
+-- its lines stand in rising number
+pub rising_held : (v : Book) → Rising (vec_items v.table.lines)
+rising_held v i j d le lt =
+    kept_bound v _ _ (λ h k. subst Rising (sym k.lines) (rising_lines h) i j d le lt)
 
 -- at most 9,999 numbers were given
 pub few_numbers : (v : Book) → v.last ≤ 9999
@@ -174,3 +160,8 @@ refused_not_free h l m e w =
     (λ v. ⊎_elim (λ z. ap (standing h) z ∙ s.at_zero) (λ lt. s.above m lt) v.0)
     (λ v. ⊎_elim (λ u. u.0) (λ u. absurd u.1) v.1)
     w)
+
+-- a line is free if it may be named and is not built in
+pub free_answer : (h : History) → Lawful h → (m : ℕ) (r : Result Line Refusal) (b : Bool) → QuestionRuled h m r → MatchResult r (λ l. b ≡ not l.built_in) (λ _. b ≡ false) → b ≡ free h m
+free_answer h l m (Ok x) b asked is = search rules
+free_answer h l m (Err e) b asked is = is ∙ sym (refused_not_free h l m e asked)

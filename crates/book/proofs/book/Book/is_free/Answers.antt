@@ -1,6 +1,9 @@
-use Rattle.std.proofs.Common.{sym}
-use Rattle.book.proofs.Steps.{refused_not_free}
+use Rattle.std.proofs.Common.{rules}
+use Rattle.std.proofs.lemmas.Result.{MatchResult-weaker}
+use Rattle.book.proofs.Steps.{free_answer}
 use Rattle.book.proofs.book.Book.is_free.Goals as goal
 
-pub returns-in-Err : goal.returns-in-Err
-returns-in-Err c h k = sym (refused_not_free h k.lawful c.args.number.value _ (c.in-Err.ensures h k))
+pub returns : goal.returns
+returns c h k =
+    free_answer h k.lawful c.args.number.value c.question.result c.is_ok_and.result (c.question.ensures h k)
+    (MatchResult-weaker c.question.result c.is_ok_and.ensures (λ l called. search rules) (λ e is. is))
