@@ -1,14 +1,17 @@
 -- What a survey answers, and leaves on its bench.
-use Rattle.std.specs.Prelude.{◌≡◌, ℕ, ◌<◌, true, List, [], ◌∷◌, ◌++◌, map, length, drop, is_some, Result, MatchResult, slice_index_or}
+use Rattle.std.specs.Prelude.{◌≡◌, ℕ, ◌<◌, List, [], ◌∷◌, ◌++◌, map, length, drop, Result, MatchResult}
+use Rattle.rules.specs.declared.item_type.ItemType.{ItemType}
+use Rattle.rules.specs.declared.kind.Kind.{Kind}
 use Rattle.rules.specs.declared.line.Line.{Line}
 use Rattle.rules.specs.declared.refusal.Refusal.{Refusal}
 use Rattle.rules.specs.declared.refusal.Refusal.TheVariants.{BenchTooShort}
-use Rattle.rules.specs.History.{History, standing, lines_standing, lines_of, place_in}
+use Rattle.rules.specs.History.{History, lines_standing, lines_of, place_in}
 use Rattle.rules.specs.Rules.{Rule, ◌when◌, Decided}
 use Rattle.rules.specs.Ruled.{naming}
 use Rattle.rules.specs.Trees.{tree_of, type_in}
 use Rattle.sums.specs.Semiring.{Meaning}
 use Rattle.sums.specs.Sums.{working_sum, failing_sum}
+use Rattle.sums.specs.Blocks.{block_working, block_failing}
 use Rattle.book.specs.declared.book.Book.{Book}
 use Rattle.book.specs.Keeps.{Keeps}
 use Rattle.survey.specs.declared.bench.Sums.{Sums}
@@ -16,6 +19,16 @@ use Rattle.survey.specs.declared.bench.Sums.{Sums}
 -- the two sums of the standing line n over all states of the items beneath it
 abbrev pub sums_of : {F : Type 0} → Meaning F → History → ℕ → Sums F
 sums_of m h n = record { working = working_sum m (type_in h) (tree_of h n); failing = failing_sum m (type_in h) (tree_of h n) }
+
+-- v has the two sums of an item of the type t
+abbrev pub ItemSums : {F : Type 0} → Meaning F → ItemType → Sums F → Type 0
+ItemSums m t v = (v.working ≡ m.working t) × (v.failing ≡ m.failed t)
+
+-- and those of a block over two lines with the sums x and y
+abbrev pub BlockSums : {F : Type 0} → Meaning F → Kind → Sums F → Sums F → Sums F → Type 0
+BlockSums m k x y v =
+    (v.working ≡ block_working m k x.working x.failing y.working y.failing)
+    × (v.failing ≡ block_failing m k x.working x.failing y.working y.failing)
 
 -- those of each standing line, in rising number
 abbrev pub all_sums : {F : Type 0} → Meaning F → History → List (Sums F)
@@ -37,8 +50,3 @@ left_on m h old = all_sums m h ++ drop (length (lines_of h)) old
 pub record Surveyed {F : Type 0} (m : Meaning F) (n : ℕ) (b : Book) (old new : List (Sums F)) (r : Result ℕ Refusal) : Type 0 where
   pub answer : (h : History) → Keeps h b → SurveyRuled h n (length old) r
   pub bench : MatchResult r (λ _. (h : History) → Keeps h b → new ≡ left_on m h old) (λ _. new ≡ old)
-
--- the places hold the sums of every standing line with a lower number than n
-abbrev pub HoldsBelow : {F : Type 0} → Meaning F → History → ℕ → List (Sums F) → Type 0
-HoldsBelow {F} m h n places = (i : ℕ) → i < n → is_some (standing h i) ≡ true
-    → (place_in h i < length places) × ((d : Sums F) → slice_index_or places (place_in h i) d ≡ sums_of m h i)

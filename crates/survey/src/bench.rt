@@ -1,5 +1,12 @@
-ghost use Rattle.std.specs.Prelude.{◌≡◌, ℕ, ◌<◌, length, slice_index_or, slice_set};
+ghost use Rattle.std.specs.Prelude.{◌≡◌, ◌≤◌, length};
 ghost use Rattle.std.specs.List.{slice_get};
+ghost use Rattle.rules.specs.History.{lines_standing};
+ghost use Rattle.book.specs.Keeps.{Tells};
+
+use crate::joining::SumsUnder;
+use book::book::Book;
+use reckoning::reckon;
+use tally::Tally;
 
 // The two sums of a line: over the states of the items beneath in which it works, and over those in
 // which it does not.
@@ -16,6 +23,8 @@ pub struct Bench<'a, F> {
 }
 
 impl<'a, F: Copy> Bench<'a, F> {
+    ghost use Rattle.survey.specs.Surveys.{left_on};
+
     pub fn new(places: &'a mut [Sums<F>]) -> Bench<'a, F>
         ensures { (result.places.now ≡ places.old) × (result.places.ghost_name ≡ places.entry.ghost_name) }
     {
@@ -33,46 +42,15 @@ impl<'a, F: Copy> Bench<'a, F> {
     pub fn get(&self, place: usize) -> Option<Sums<F>>
         ensures { result ≡ slice_get self.now.places.now place }
     {
-        held(self.places, place)
+        self.places.get(place).copied()
     }
 
-    // What a place holds.
-    pub(crate) fn at(&self, place: usize) -> Sums<F>
-        requires { place < length self.now.places.now }
-        ensures { result ≡ slice_index_or self.now.places.now place result }
-    {
-        load(self.places, place)
-    }
-
-    pub(crate) fn put(&mut self, place: usize, sums: Sums<F>)
-        requires { place < length self.old.places.now }
-        ensures held { self.new.places.now ≡ slice_set self.old.places.now place sums }
+    // Puts the sums of each line at its place; the places past the last line stay as they were.
+    pub(crate) fn fill<T: Tally<Figure = F>>(&mut self, book: &Book, tally: &T)
+        requires { Tells book.now (λ h. lines_standing h ≤ length self.old.places.now) }
+        ensures sums { Tells book.now (λ h. self.new.places.now ≡ left_on (T.Tally.meaning tally.now) h self.old.places.now) }
         ensures same { self.new.places.ghost_name ≡ self.old.places.ghost_name }
     {
-        store(self.places, place, sums)
+        reckon(book, &SumsUnder { tally }, self.places);
     }
-}
-
-fn held<F: Copy>(places: &[Sums<F>], place: usize) -> Option<Sums<F>>
-    ensures { result ≡ slice_get places.now place }
-{
-    if place < places.len() {
-        Some(load(places, place))
-    } else {
-        None
-    }
-}
-
-fn load<F: Copy>(places: &[Sums<F>], place: usize) -> Sums<F>
-    requires { place < length places.now }
-    ensures { result ≡ slice_index_or places.now place result }
-{
-    places[place]
-}
-
-fn store<F: Copy>(places: &mut [Sums<F>], place: usize, sums: Sums<F>)
-    requires { place < length places.old }
-    ensures { places.new ≡ slice_set places.old place sums }
-{
-    places[place] = sums;
 }

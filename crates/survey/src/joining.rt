@@ -1,47 +1,52 @@
 ghost use Rattle.std.specs.Prelude.{◌≡◌};
-ghost use Rattle.sums.specs.Blocks.{block_working, block_failing};
 
 use crate::bench::Sums;
+use reckoning::Reckoning;
 use rules::item_type::ItemType;
 use rules::kind::Kind;
 use tally::Tally;
 
-// The sums of an item of a type: the figure of one that works, and that of one that failed.
-pub fn item_sums<T: Tally>(tally: &T, item_type: ItemType) -> Sums<T::Figure>
-    ensures working { result.working ≡ (T.Tally.meaning tally.now).working item_type }
-    ensures failing { result.failing ≡ (T.Tally.meaning tally.now).failed item_type }
-{
-    Sums {
-        working: tally.working(item_type),
-        failing: tally.failed(item_type),
-    }
+// Reckons the sums of lines under a tally.
+#[derive(Drop)]
+pub struct SumsUnder<'a, T> {
+    pub tally: &'a T,
 }
 
-// The sums of a block over two lines that have the sums x and y.
-pub fn joined<T: Tally>(
-    tally: &T,
-    kind: Kind,
-    x: Sums<T::Figure>,
-    y: Sums<T::Figure>,
-) -> Sums<T::Figure>
-    ensures working { result.working ≡ block_working (T.Tally.meaning tally.now) kind x.working x.failing y.working y.failing }
-    ensures failing { result.failing ≡ block_failing (T.Tally.meaning tally.now) kind x.working x.failing y.working y.failing }
-{
-    let either = tally.plus(y.working, y.failing);
-    match kind {
-        Kind::Series => Sums {
-            working: tally.times(x.working, y.working),
-            failing: tally.plus(
-                tally.times(x.working, y.failing),
-                tally.times(x.failing, either),
-            ),
-        },
-        Kind::Parallel => Sums {
-            working: tally.plus(
-                tally.times(x.working, either),
-                tally.times(x.failing, y.working),
-            ),
-            failing: tally.times(x.failing, y.failing),
-        },
+impl<'a, T: Tally> Reckoning for SumsUnder<'a, T> {
+    ghost use Rattle.survey.specs.Surveys.{ItemSums, BlockSums};
+
+    type Figure = Sums<T::Figure>;
+
+    ghost of_item = { λ r t v. ItemSums (T.Tally.meaning r.tally.now) t v };
+
+    ghost of_block = { λ r k x y v. BlockSums (T.Tally.meaning r.tally.now) k x y v };
+
+    // The figure of an item that works, and that of one that failed.
+    fn item(&self, item_type: ItemType) -> Sums<T::Figure> {
+        Sums {
+            working: self.tally.working(item_type),
+            failing: self.tally.failed(item_type),
+        }
+    }
+
+    fn block(&self, kind: Kind, x: &Sums<T::Figure>, y: &Sums<T::Figure>) -> Sums<T::Figure> {
+        let tally = self.tally;
+        let either = tally.plus(y.working, y.failing);
+        match kind {
+            Kind::Series => Sums {
+                working: tally.times(x.working, y.working),
+                failing: tally.plus(
+                    tally.times(x.working, y.failing),
+                    tally.times(x.failing, either),
+                ),
+            },
+            Kind::Parallel => Sums {
+                working: tally.plus(
+                    tally.times(x.working, either),
+                    tally.times(x.failing, y.working),
+                ),
+                failing: tally.times(x.failing, y.failing),
+            },
+        }
     }
 }

@@ -1,4 +1,4 @@
 pub mod Rounding
 pub mod Enclosing
-pub mod Places
+pub mod Reckoned
 pub mod Answered

@@ -23,9 +23,9 @@ impl Bounds {
     }
 
     // The bounds of a block over two lines that have the bounds x and y.
-    pub fn joined(kind: Kind, x: Bounds, y: Bounds) -> Bounds
-        ensures low { result.low.units ≡ block_low kind x.low.units y.low.units }
-        ensures high { result.high.units ≡ block_high kind x.high.units y.high.units }
+    pub fn joined(kind: Kind, x: &Bounds, y: &Bounds) -> Bounds
+        ensures low { result.low.units ≡ block_low kind x.now.low.units y.now.low.units }
+        ensures high { result.high.units ≡ block_high kind x.now.high.units y.now.high.units }
     {
         match kind {
             Kind::Series => Bounds {

@@ -1,39 +1,53 @@
 ghost use Rattle.std.specs.Prelude.{◌≡◌};
-ghost use Rattle.survival.specs.Held.{fraction_of, FractionsRuled};
 
+use crate::bounds::Bounds;
 use crate::fixed_point::FixedPoint;
 use crate::shares::Shares;
+use reckoning::Reckoning;
+use rules::by_type::ByType;
 use rules::item_type::ItemType;
+use rules::kind::Kind;
 use rules::refusal::Refusal;
 
-// The share of each type as a number from 0 to 1.
+// The share of each type as a number from 0 to 1, by which the bounds of lines are reckoned.
 #[derive(Clone, Copy)]
 pub struct Fractions {
-    pub one: FixedPoint,
-    pub two: FixedPoint,
-    pub three: FixedPoint,
+    pub by_type: ByType<FixedPoint>,
 }
 
-impl Fractions {
-    // The fractions that the shares stand for, if none is above 1.
-    pub fn from_shares(shares: Shares) -> Result<Fractions, Refusal>
-        ensures { FractionsRuled shares result }
-    {
+// The fractions that the shares stand for, if none is above 1.
+impl TryFrom<Shares> for Fractions {
+    ghost use Rattle.survival.specs.Held.{FractionsRuled};
+
+    type Error = Refusal;
+
+    ghost try_from_gives = { FractionsRuled };
+
+    fn try_from(shares: Shares) -> Result<Self, Refusal> {
         Ok(Fractions {
-            one: FixedPoint::from_share(shares.one)?,
-            two: FixedPoint::from_share(shares.two)?,
-            three: FixedPoint::from_share(shares.three)?,
+            by_type: ByType {
+                one: shares.one.try_into()?,
+                two: shares.two.try_into()?,
+                three: shares.three.try_into()?,
+            },
         })
     }
+}
 
-    // The fraction of a type.
-    pub fn of(self, item_type: ItemType) -> FixedPoint
-        ensures { result.units ≡ fraction_of self item_type }
-    {
-        match item_type {
-            ItemType::One => self.one,
-            ItemType::Two => self.two,
-            ItemType::Three => self.three,
-        }
+impl Reckoning for Fractions {
+    ghost use Rattle.survival.specs.Held.{fraction_of, ItemBounds, BlockBounds};
+
+    type Figure = Bounds;
+
+    ghost of_item = { λ f t b. ItemBounds (fraction_of f) t b };
+
+    ghost of_block = { λ f k x y b. BlockBounds k x y b };
+
+    fn item(&self, item_type: ItemType) -> Bounds {
+        Bounds::exact(self.by_type.of(item_type))
+    }
+
+    fn block(&self, kind: Kind, x: &Bounds, y: &Bounds) -> Bounds {
+        Bounds::joined(kind, x, y)
     }
 }
