@@ -1,8 +1,9 @@
 -- Which lines of a book work, told by the history that it keeps.
-use Rattle.std.proofs.Common.{◌≡◌, ℕ, zero, suc, ◌<◌, ◌≤◌, Bool, true, false, ◌&&◌, ◌||◌, eqb, List, [], ◌∷◌, ◌++◌, is_some, Some, None, Option, sym, refl, ap, ◌∙◌, ap₂, ⊎_elim, arith}
+use Rattle.std.proofs.Common.{◌≡◌, ℕ, zero, suc, ◌<◌, ◌≤◌, Bool, true, false, ◌&&◌, ◌||◌, eqb, List, [], ◌∷◌, ◌++◌, is_some, Some, None, Ok, Err, Option, Result, sym, refl, ap, ◌∙◌, ap₂, ⊎_elim, arith}
 use mathlib.Core.Path.{fun_ext}
 use mathlib.Core.Bool.{or_assoc}
 use Rattle.std.specs.Option.{option_map, option_to_list}
+use Rattle.std.specs.Result.{result_unwrap_or}
 use Rattle.std.proofs.lemmas.Bool.{cases_lt, cases_eq}
 use Rattle.rules.specs.declared.item_type.ItemType.{ItemType}
 use Rattle.rules.specs.declared.kind.Kind.{Kind}
@@ -13,7 +14,7 @@ use Rattle.rules.specs.declared.part_number.PartNumber.{PartNumber}
 use Rattle.rules.specs.declared.refusal.Refusal.{Refusal}
 use Rattle.rules.specs.Kinds.{block_works}
 use Rattle.rules.specs.History.{History, given, standing, is_built_in, has, line_of, listing, lines_of}
-use Rattle.rules.specs.Rules.{Refused}
+use Rattle.rules.specs.Rules.{Refused, Decided}
 use Rattle.rules.specs.Ruled.{naming, Lawful}
 use Rattle.rules.specs.Trees.{State, Tree, item, block, works, tree_of}
 use Rattle.rules.proofs.Sound.{sound}
@@ -28,9 +29,7 @@ use Rattle.sums.proofs.Numbers.{numbers_semiring}
 use Rattle.sums.proofs.Places.{places_stand_lem}
 use Rattle.sums.proofs.States.{put_same, put_other}
 use Rattle.plan.specs.LinePlans.{plan_of_line}
-use Rattle.book.specs.declared.book.Book.{Book}
-use Rattle.book.specs.Keeps.{Keeps}
-use Rattle.book.proofs.Steps.{kept_bound}
+use Rattle.survey.proofs.Folds.{named_stands}
 use Rattle.survey.proofs.Places.{answer_stands}
 use Rattle.line_plan.specs.declared.item_list.TypedItem.{TypedItem}
 use Rattle.line_plan.specs.Items.{state_of}
@@ -44,13 +43,6 @@ lines_append s (l ∷ xs) ys w = lines_append s xs ys (put l.number.value (part_
 -- what stands under a number that the book was asked about
 pub answered : (h : History) (n : ℕ) (x : Line) (p : Part) → line_of h n ≡ Some x → x.part ≡ p → standing h n ≡ Some p
 answered h n x p found e = answer_stands h n x found ∙ ap Some e
-
--- the lines of a block have lower numbers
-pub lower : (v : Book) (n : ℕ) (x : Line) → ((h : History) → Keeps h v → line_of h n ≡ Some x) → (k : Kind) (a b : PartNumber) → x.part ≡ Block k a b
-    → (a.value < n) × (b.value < n)
-lower v n x found k a b e =
-    let low : (h : History) → Keeps h v → (a.value < n) × (b.value < n) = λ h kept. lines_low h kept.lawful n k a b (answered h n x (Block k a b) (found h kept) e) in
-    (kept_bound v _ _ (λ h kept. (low h kept).0), kept_bound v _ _ (λ h kept. (low h kept).1))
 
 -- an item is in either list
 pub has_append : (is js : List ℕ) (i : ℕ) → has (is ++ js) i ≡ (has is i || has js i)
@@ -84,6 +76,11 @@ module _ (h : History) (l : Lawful h) where
         ap₂ (op k) (ep ∙ stands_tree a.value on.0) (eq ∙ stands_tree b.value on.1)
         ∙ sym (joins k (tree_of h a.value) (tree_of h b.value))
         ∙ sym (stands_tree n (ap is_some e) ∙ ap test (tree_block h l n k a b e))
+
+    -- the answer of a question for the test, with false for a line that does not stand
+    pub unwrap_stands : (n : ℕ) (r : Result Bool Refusal) → Decided (naming h n) (λ v. v ≡ test (tree_of h n)) r → result_unwrap_or r false ≡ stands_and h n test
+    unwrap_stands n (Ok v) d = d.1 ∙ sym (stands_tree n (named_stands (standing h n) d.0.1.0))
+    unwrap_stands n (Err e) w = sym (stands_none n (none_refused n e w))
 
   module _ (s : State) where
     abbrev runs : Tree → Bool

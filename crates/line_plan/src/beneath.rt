@@ -1,8 +1,8 @@
 ghost use Rattle.std.specs.Prelude.{◌≡◌, true, is_some};
-ghost use Rattle.rules.specs.History.{History, standing, has};
+ghost use Rattle.rules.specs.History.{standing, has};
 ghost use Rattle.rules.specs.Trees.{items as beneath, works};
 ghost use Rattle.place_set.specs.Sets.{members};
-ghost use Rattle.book.specs.Keeps.{Keeps};
+ghost use Rattle.book.specs.Keeps.{Tells};
 ghost use Rattle.line_plan.specs.Items.{listed, state_of};
 ghost use Rattle.line_plan.specs.Beneath.{stands_and, ItemsBeneath};
 
@@ -12,10 +12,12 @@ use place_set::PlaceSet;
 use rules::kind::Kind;
 use rules::line::Part;
 use rules::part_number::PartNumber;
+use survey::beneath::fold_beneath;
 
-// Whether the line stands and works, where each item of the list is as the set has its place.
+// Whether the line stands and works, where each item of the list is as the set has its place. A
+// block's second line is asked only where the first does not decide; a fold asks both.
 pub fn line_works(book: &Book, number: PartNumber, items: &ItemList, state: PlaceSet) -> bool
-    ensures { (h : History) → Keeps h book.now → result ≡ stands_and h number.value (λ x. works x (state_of (listed items.now) (members state))) }
+    ensures { Tells book.now (λ h. result ≡ stands_and h number.value (λ x. works x (state_of (listed items.now) (members state)))) }
 {
     match book.question(number) {
         Ok(line) => match line.part {
@@ -34,21 +36,15 @@ pub fn line_works(book: &Book, number: PartNumber, items: &ItemList, state: Plac
 
 // Whether the line stands and the item lies beneath it.
 fn lies_beneath(book: &Book, number: PartNumber, item: PartNumber) -> bool
-    ensures { (h : History) → Keeps h book.now → result ≡ stands_and h number.value (λ x. has (beneath x) item.value) }
+    ensures { Tells book.now (λ h. result ≡ stands_and h number.value (λ x. has (beneath x) item.value)) }
 {
-    match book.question(number) {
-        Ok(line) => match line.part {
-            Part::Item(_) => item.get() == number.get(),
-            Part::Block(_, a, b) => lies_beneath(book, a, item) || lies_beneath(book, b, item),
-        },
-        Err(_) => false,
-    }
+    fold_beneath(book, number, &|found, _| found == item, &|a, b| a || b).unwrap_or(false)
 }
 
 // The items beneath a line that stands, in rising number.
 pub fn items_beneath(book: &Book, number: PartNumber) -> ItemList
-    requires { (h : History) → Keeps h book.now → is_some (standing h number.value) ≡ true }
-    ensures { (h : History) → Keeps h book.now → ItemsBeneath h number.value (listed result) }
+    requires { Tells book.now (λ h. is_some (standing h number.value) ≡ true) }
+    ensures { Tells book.now (λ h. ItemsBeneath h number.value (listed result)) }
 {
     let lines = book.lines();
     let mut items = ItemList::empty();

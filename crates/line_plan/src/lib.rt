@@ -5,9 +5,8 @@ mod item_list;
 #[cfg(test)]
 mod tests;
 
-ghost use Rattle.rules.specs.History.{History};
 ghost use Rattle.plan.specs.LinePlans.{PlanRuled};
-ghost use Rattle.book.specs.Keeps.{Keeps};
+ghost use Rattle.book.specs.Keeps.{Tells};
 ghost use Rattle.line_plan.specs.Meanings.{plan_meant, plan_answer};
 ghost use Rattle.line_plan.specs.MeaningsLemmas.{meant_lawful};
 
@@ -32,7 +31,7 @@ pub struct LinePlan<'a> {
 impl<'a> LinePlan<'a> {
     // The plan of the line with the number. Refused with 15 and 16, as a question about the line is.
     pub fn new(book: &'a Book, number: PartNumber) -> Result<LinePlan<'a>, Refusal>
-        ensures { (h : History) → Keeps h book.now → PlanRuled h number.value (plan_answer result) }
+        ensures { Tells book.now (λ h. PlanRuled h number.value (plan_answer result)) }
     {
         let _line = book.question(number)?;
         let items = items_beneath(book, number);

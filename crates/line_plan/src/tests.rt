@@ -15,25 +15,11 @@ fn n(value: u32) -> PartNumber {
 // Whether the plan has these types at the places 0 to 3, and works in just these of the states
 // of the places 0 to 2: bit m for the state with the mask m.
 fn is_plan(plan: &LinePlan<'_>, types: [Option<ItemType>; 4], working: u8) -> bool {
-    for place in 0..4u8 {
-        if plan.item_type(place) != types[place as usize] {
-            return false;
-        }
-    }
-    for mask in 0..8u8 {
-        let state = PlaceSet::from_mask(mask as u16);
-        if plan.works(state) != PlaceSet::from_mask(working as u16).contains(mask) {
-            return false;
-        }
-    }
-    true
-}
-
-fn is_refused(made: Result<LinePlan<'_>, Refusal>, refusal: Refusal) -> bool {
-    match made {
-        Ok(_) => false,
-        Err(found) => found == refusal,
-    }
+    let working = PlaceSet::from(u16::from(working));
+    (0..4)
+        .zip(types)
+        .all(|(place, item_type)| plan.item_type(place) == item_type)
+        && (0..8).all(|mask| plan.works(PlaceSet::from(u16::from(mask))) == working.contains(mask))
 }
 
 // Items 1 and 2 of type 1, item 3 of type 2, series 4 over 1 and 2, parallel 5 over 4 and 3.
@@ -53,10 +39,10 @@ fn five_lines(rt: HostRuntime) -> Result<(), Fail> {
         None,
     ];
     assert!(rt; is_plan(&plan, types, 0b1111_1000));
-    assert!(rt; is_refused(LinePlan::new(&book, n(0)), Refusal::NeverGiven));
-    assert!(rt; is_refused(LinePlan::new(&book, n(6)), Refusal::NeverGiven));
+    assert_eq!(rt; LinePlan::new(&book, n(0)).err(), Some(Refusal::NeverGiven));
+    assert_eq!(rt; LinePlan::new(&book, n(6)).err(), Some(Refusal::NeverGiven));
     let _ = book.withdraw(n(5));
-    assert!(rt; is_refused(LinePlan::new(&book, n(5)), Refusal::Withdrawn));
+    assert_eq!(rt; LinePlan::new(&book, n(5)).err(), Some(Refusal::Withdrawn));
     Ok(())
 }
 
@@ -97,7 +83,7 @@ fn sixteen_items(rt: HostRuntime) -> Result<(), Fail> {
     let plan = LinePlan::new(&book, line)?;
     assert!(rt; plan.item_type(15) == Some(ItemType::Three));
     assert!(rt; plan.item_type(16) == None);
-    assert!(rt; plan.works(PlaceSet::from_mask(0xffff)));
-    assert!(rt; !plan.works(PlaceSet::from_mask(0x7fff)));
+    assert!(rt; plan.works(PlaceSet::from(0xffff)));
+    assert!(rt; !plan.works(PlaceSet::from(0x7fff)));
     Ok(())
 }

@@ -1,10 +1,9 @@
 -- What a survey leaves at the place of the named line.
-use Rattle.std.proofs.Common.{◌≡◌, ℕ, ◌<◌, true, List, length, drop, is_some, Some, None, Ok, Option, refl, ap, ◌∙◌, ap₂, arith}
+use Rattle.std.proofs.Common.{◌≡◌, ℕ, ◌<◌, true, List, length, drop, is_some, Some, None, Ok, IsSome, Option, refl, ap, ◌∙◌, ap₂, arith}
 use Rattle.std.specs.List.{slice_get}
 use Rattle.std.proofs.lemmas.List.{get_or-map, get_or_append_left, length-map, length-append}
-use Rattle.std.proofs.lemmas.Option.{slice_get-get_or}
+use Rattle.std.proofs.lemmas.Option.{slice_get-get_or, none-some}
 use Rattle.rules.specs.declared.line.Line.{Line}
-use Rattle.rules.specs.declared.line.Part.{Part}
 use Rattle.rules.specs.Tables.{no_line}
 use Rattle.rules.specs.History.{History, standing, lines_of, place_in}
 use Rattle.rules.specs.Ruled.{Lawful}
@@ -13,7 +12,8 @@ use Rattle.book.specs.declared.book.Book.{Book}
 use Rattle.book.specs.Keeps.{Keeps}
 use Rattle.survey.specs.declared.bench.Sums.{Sums}
 use Rattle.survey.specs.Surveys.{sums_of, all_sums, left_on, Surveyed}
-use Rattle.survey.proofs.Places.{stands_at}
+use Rattle.survey.proofs.Folds.{named_stands}
+use Rattle.survey.proofs.Places.{stands_at, from_kept}
 
 pub sums_at : {F : Type 0} (m : Meaning F) (h : History) → Lawful h → (n : ℕ) → is_some (standing h n) ≡ true → (old : List (Sums F)) → slice_get (left_on m h old) (place_in h n) ≡ Some (sums_of m h n)
 sums_at {F} m h l n on old =
@@ -27,13 +27,13 @@ sums_at {F} m h l n on old =
     ∙ get_or-map (λ (k : Line). sums_of m h k.number.value) (lines_of h) i no_line d at.0
     ∙ ap (sums_of m h) at.1)
 
--- a line that may be named stands
-pub named_stands : (p : Option Part) → (p ≡ None → ⊥) → is_some p ≡ true
-named_stands None f = absurd (f refl)
-named_stands (Some p) f = refl
-
 -- after an answered survey the place that it answered holds the sums of the named line
 pub sums_there : {F : Type 0} {m : Meaning F} (h : History) (b : Book) → Keeps h b → (n i : ℕ) (old new : List (Sums F)) → Surveyed m n b old new (Ok i) → slice_get new i ≡ Some (sums_of m h n)
 sums_there {F} {m} h b k n i old new s =
     let a = s.answer h k in
     ap₂ (slice_get {X = Sums F}) (s.bench h k) a.1 ∙ sums_at m h k.lawful n (named_stands (standing h n) a.0.1.0) old
+
+-- the place that an answered survey answers is on the bench
+pub place_there : {F : Type 0} {m : Meaning F} (b : Book) (n i : ℕ) (old new : List (Sums F)) (o : Option (Sums F)) → Surveyed m n b old new (Ok i) → o ≡ slice_get new i → IsSome o
+place_there b n i old new (Some d) s e = refl
+place_there b n i old new None s e = absurd (from_kept b (λ h k. none-some _ (e ∙ sums_there h b k n i old new s)))

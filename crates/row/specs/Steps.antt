@@ -17,7 +17,6 @@ use Rattle.book.specs.declared.book.Book.{Book}
 use Rattle.book.specs.Keeps.{Keeps}
 use Rattle.survey.specs.declared.bench.Sums.{Sums}
 use Rattle.survey.specs.Surveys.{survey_rules, left_on}
-use Rattle.row.specs.declared.one_type_line.OneTypeLine.{OneTypeLine}
 use Rattle.row.specs.Rows.{factorial, of_each_type, items_beneath, Mixed}
 
 -- the items beneath the line are all of the type t
@@ -46,20 +45,21 @@ pub record Summed (n : ℕ) (b : Book) (old new : List (Sums CellTable)) (r : Re
   pub answer : (h : History) → Keeps h b → Decided (survey_rules h n (length old)) (λ x. x ≡ working_sum signature (type_in h) (tree_of h n)) r
   pub left : MatchResult r (λ _. (h : History) → Keeps h b → new ≡ left_on signature h old) (λ _. new ≡ old)
 
--- the number of states with l items working in which the line works
-abbrev pub states_with : OneTypeLine → ℕ → ℕ
-states_with x l = of_each_type x.item_type (cell x.sum.cells) l
+-- the number of states with l items of the type working in which a line works, by its first sum
+abbrev pub states_with : CellTable → ItemType → ℕ → ℕ
+states_with s t l = of_each_type t (cell s.cells) l
 
--- in how many of the orders in which the items can fail, one by one, the line works with l of them left
-abbrev pub orders_with : OneTypeLine → ℕ → ℕ
-orders_with x l = states_with x l * (factorial l * factorial (x.items - l))
+-- where a line of m items works in N l states with l of them working: in how many of the orders in
+-- which the items can fail, one by one, it works with l of them left
+abbrev pub orders_with : (ℕ → ℕ) → ℕ → ℕ → ℕ
+orders_with N m l = N l * (factorial l * factorial (m - l))
 
 -- in how many of them it stops at the next failure after k others
-abbrev pub stops_at : OneTypeLine → ℕ → ℕ
-stops_at x k = cond (nat_lt k x.items) (orders_with x (x.items - k) - orders_with x (x.items - k - 1)) 0
+abbrev pub stops_at : (ℕ → ℕ) → ℕ → ℕ → ℕ
+stops_at N m k = cond (nat_lt k m) (orders_with N m (m - k) - orders_with N m (m - k - 1)) 0
 
 -- at most seven items; the more of them are left, the more orders, and their number fits
-pub record Orderly (x : OneTypeLine) : Type 0 where
-  pub few : x.items ≤ 7
-  pub rise : (l : ℕ) → l < x.items → orders_with x l ≤ orders_with x (l + 1)
-  pub small : (l : ℕ) → l ≤ x.items → orders_with x l < 2 ^ 32
+pub record Orderly (N : ℕ → ℕ) (m : ℕ) : Type 0 where
+  pub few : m ≤ 7
+  pub rise : (l : ℕ) → l < m → orders_with N m l ≤ orders_with N m (l + 1)
+  pub small : (l : ℕ) → l ≤ m → orders_with N m l < 2 ^ 32

@@ -48,10 +48,8 @@ fn uniform(book: &Book, number: PartNumber) -> Result<(ItemType, usize), Refusal
     ensures { UniformRuled number.value book.now result }
 {
     let items = items_beneath(book, number)?;
-    match only_type(book, number) {
-        Some(item_type) => Ok((item_type, items as usize)),
-        None => Err(Refusal::MixedTypes),
-    }
+    let item_type = only_type(book, number)?.ok_or(Refusal::MixedTypes)?;
+    Ok((item_type, items as usize))
 }
 
 // Surveys a line under the signature, and answers its first sum.
@@ -64,8 +62,5 @@ fn first_sum(
     ensures same { bench.new.places.ghost_name ≡ bench.old.places.ghost_name }
 {
     let place = survey(book, number, &Signature, bench)?;
-    match bench.get(place) {
-        Some(sums) => Ok(sums.working),
-        None => unreachable(),
-    }
+    Ok(bench.get(place).unwrap().working)
 }

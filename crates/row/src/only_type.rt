@@ -1,25 +1,20 @@
-ghost use Rattle.std.specs.Prelude.{◌≡◌, true, is_some};
-ghost use Rattle.rules.specs.History.{History, standing};
-ghost use Rattle.book.specs.Keeps.{Keeps};
+ghost use Rattle.std.specs.Prelude.{◌≡◌};
+ghost use Rattle.rules.specs.Rules.{Decided};
+ghost use Rattle.rules.specs.Ruled.{naming};
+ghost use Rattle.book.specs.Keeps.{Tells};
 ghost use Rattle.row.specs.Steps.{OnlyType, common_type};
 
 use book::book::Book;
 use rules::item_type::ItemType;
-use rules::line::Part;
 use rules::part_number::PartNumber;
+use rules::refusal::Refusal;
+use survey::beneath::fold_beneath;
 
-// The type of all items beneath a line that stands, or None where they are of several types.
-pub fn only_type(book: &Book, number: PartNumber) -> Option<ItemType>
-    requires { (h : History) → Keeps h book.now → is_some (standing h number.value) ≡ true }
-    ensures { (h : History) → Keeps h book.now → OnlyType h number.value result }
+// The type of all items beneath a line, or None where they are of several types.
+pub fn only_type(book: &Book, number: PartNumber) -> Result<Option<ItemType>, Refusal>
+    ensures { Tells book.now (λ h. Decided (naming h number.value) (OnlyType h number.value) result) }
 {
-    match book.question(number) {
-        Ok(line) => match line.part {
-            Part::Item(item_type) => Some(item_type),
-            Part::Block(_, a, b) => common(only_type(book, a), only_type(book, b)),
-        },
-        Err(_) => unreachable(),
-    }
+    fold_beneath(book, number, &|_, item_type| Some(item_type), &common)
 }
 
 // The type that both are.

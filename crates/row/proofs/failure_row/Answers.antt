@@ -1,37 +1,34 @@
 use Rattle.rules.specs.History.{History, standing}
 use Rattle.book.specs.Keeps.{Keeps}
 use Rattle.book.proofs.Steps.{kept_bound}
-use Rattle.row.specs.declared.one_type_line.OneTypeLine.{OneTypeLine}
-use Rattle.row.specs.Steps.{Orderly}
-use Rattle.row.proofs.Benches.{named_stands}
+use Rattle.survey.proofs.Folds.{named_stands}
+use Rattle.row.specs.Steps.{states_with, Orderly}
 use Rattle.row.proofs.Orders.{orderly, row_filled}
 use Rattle.row.proofs.failure_row.Goals as goal
 
-pub failure_row-requires : goal.failure_row-requires
-failure_row-requires c =
+pub invariant_of-line : goal.invariant_of-line
+invariant_of-line c =
     let n = c.args.number.value in
     let book = c.args.book.now in
-    let x : OneTypeLine = record { sum = c.in_ok-sum.sum; item_type = c.in_ok-item_type.item_type; items = c.in_ok-item_type.items } in
-    let at : (h : History) → Keeps h book → Orderly x = λ h k.
+    let at : (h : History) → Keeps h book → Orderly (states_with c.in_ok-sum.sum c.in_ok-item_type.item_type) c.in_ok-item_type.items = λ h k.
     let u = c.in_ok-item_type.ensures h k in
-    orderly h k.lawful n (named_stands (standing h n) u.0.1.0) x u.1.0 u.1.1 (c.in_ok-sum.ensures.answer.answer h k).1 in
+    orderly h k.lawful n (named_stands (standing h n) u.0.1.0) _ _ _ u.1.0 u.1.1 (c.in_ok-sum.ensures.answer.answer h k).1 in
     record {
-      few = kept_bound book _ _ (λ h k. (at h k).few);
-      rise = λ l lt. kept_bound book _ _ (λ h k. (at h k).rise l lt);
-      small = λ l le. kept_bound book _ _ (λ h k. (at h k).small l le);
+      orderly = record {
+        few = kept_bound book _ _ (λ h k. (at h k).few);
+        rise = λ l lt. kept_bound book _ _ (λ h k. (at h k).rise l lt);
+        small = λ l le. kept_bound book _ _ (λ h k. (at h k).small l le);
+      };
     }
 
-pub returns : goal.returns
-returns c = record {
-  answer = record {
-    answer = λ h k.
-        let n = c.args.number.value in
-        let u = c.in_ok-item_type.ensures h k in
-        let s = c.in_ok-sum.ensures.answer.answer h k in (
-          (u.0.0, (u.0.1.0, (u.0.1.1.0, (s.0.1.1.0, tt)))),
-          (c.in_ok-item_type.item_type, row_filled h k.lawful n (named_stands (standing h n) u.0.1.0) _ u.1.0 u.1.1 s.1 _ c.failure_row.ensures.long c.failure_row.ensures.each),
-        );
-    left = c.in_ok-sum.ensures.answer.left;
-  };
-  same = c.in_ok-sum.ensures.same;
+pub returns-clause-answer : goal.returns-clause-answer
+returns-clause-answer c = record {
+  answer = λ h k.
+      let n = c.args.number.value in
+      let u = c.in_ok-item_type.ensures h k in
+      let s = c.in_ok-sum.ensures.answer.answer h k in (
+        (u.0.0, (u.0.1.0, (u.0.1.1.0, (s.0.1.1.0, tt)))),
+        (c.in_ok-item_type.item_type, row_filled h k.lawful n (named_stands (standing h n) u.0.1.0) c.in_ok-sum.sum _ c.in_ok-item_type.items u.1.0 u.1.1 s.1 _ c.failure_row.ensures.long c.failure_row.ensures.each),
+      );
+  left = c.in_ok-sum.ensures.answer.left;
 }

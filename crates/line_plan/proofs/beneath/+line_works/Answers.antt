@@ -9,9 +9,10 @@ use Rattle.rules.specs.History.{History, line_of}
 use Rattle.rules.specs.Ruled.{Lawful}
 use Rattle.rules.specs.Trees.{State, Tree, works}
 use Rattle.place_set.specs.Sets.{members}
+use Rattle.survey.proofs.Folds.{lower}
 use Rattle.line_plan.specs.Items.{listed, state_of}
 use Rattle.line_plan.specs.Beneath.{stands_and}
-use Rattle.line_plan.proofs.Trees.{answered, lower, none_refused, stands_none, stands_item, both_lines}
+use Rattle.line_plan.proofs.Trees.{answered, none_refused, stands_none, stands_item, both_lines}
 use Rattle.line_plan.proofs.beneath.+line_works.Goals as goal
 
 pub line_works-first-requires : goal.line_works-first-requires
