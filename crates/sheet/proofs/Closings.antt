@@ -2,14 +2,19 @@
 use Rattle.std.proofs.Common.{◌≡◌, ℕ, suc, ◌+◌, ◌<◌, ◌≤◌, Bool, true, false, cond, eqb, ltb, ◌⊎◌, List, [], ◌∷◌, length, take, Some, None, Ok, Err, Option, Result, sym, refl, ap, ◌∙◌, inl, inr, ⊎_elim, arith, length-take-le, ltb-false, ltb-true, le-ltb, eq-eqb, ne_eqb, eqb-true}
 use borrow.Author.Tests.{eqb-false}
 use Rattle.std.proofs.lemmas.Bool.{cases_Bool}
+use Rattle.std.proofs.lemmas.Iterator.Consumers.{YieldsList-from_first, YieldsList-end}
+use Rattle.std.specs.Iterator.{Drains, YieldsFirstBy}
+use Rattle.std.specs.List.{last_or}
+use Rattle.std.specs.Prelude.{map}
 use Rattle.std.specs.Option.{option_map}
 use Rattle.sheet.specs.declared.fault.Fault.{Fault}
 use Rattle.rules.specs.declared.refusal.Refusal.TheVariants.{SheetTooLong, NoClosingLine, WrongLineCount}
 use Rattle.sheet.specs.declared.check.Closing.{Closing}
-use Rattle.text.specs.Texts.{Line, longer, lines_in, numbered, lines_of, last_or, but_last, ended}
+use Rattle.text.specs.Texts.{Line, longer, lines_in, numbered, lines_of, but_last, ended}
 use Rattle.text.specs.Readings.{closing_of}
+use Rattle.text.proofs.Places.{last_within}
 use Rattle.sheet.specs.Faults.{fault_of}
-use Rattle.sheet.specs.Checks.{Checked, closed_at, closed, above_last, counted, check_of}
+use Rattle.sheet.specs.Checks.{Checked, closing_at, closed_at, closed, above_last, counted, check_of}
 use Rattle.sheet.specs.Laws.{Miscounts, check_rules, refusal_of}
 use Rattle.rules.specs.Rules.{◌when◌, Decided}
 
@@ -80,6 +85,22 @@ last_cuts t line h =
     let at : line.place ≡ start (lines_in t) = omega arith in
     ap (λ k. lines_of (take k t)) at ∙ ap (numbered 1 0) (above_lines t) ∙ sym (but_last_numbered 1 0 (lines_in t))
 
+-- the last item of an iterator that shows what is left is the last of what is left
+last_map : {A B : Type 0} (view : A → B) (o : Option A) (xs : List A) → option_map view (last_or o xs) ≡ last_or (option_map view o) (map view xs)
+last_map view o [] = refl
+last_map view o (x ∷ xs) = last_map view (Some x) xs
+
+pub last_left : {S A B : Type 0} (view : A → B) (rest : S → List B) (s : S) (r : Option A) (all : List B) → rest s ≡ all → (xs : List A) × Drains (YieldsFirstBy view rest) s xs × (r ≡ last_or None xs) → option_map view r ≡ last_or None all
+last_left view rest s r all is (xs, (u, (t, runs, ends)), last) =
+    ap (option_map view) last ∙ last_map view None xs ∙ ap (last_or None) (YieldsList-end (YieldsList-from_first view rest all is) xs t runs None u refl ends).0
+
+-- the last line of a text that ends with byte 10 is its closing line, or no line is
+pub closed_by : (t : List ℕ) (l : Option Line) → ended t ≡ true → l ≡ last_or None (lines_of t) → closed_at l ≡ closed t
+closed_by t l ends is = rw (ends, is)
+
+pub closed_with : (t : List ℕ) (l : Line) (cf : Option (ℕ × ℕ)) → ended t ≡ true → Some l ≡ last_or None (lines_of t) → cf ≡ closing_of l → option_map (closing_at l) cf ≡ closed t
+closed_with t l cf ends is says = ap (option_map (closing_at l)) says ∙ closed_by t (Some l) ends is
+
 -- a closing line is the last line
 pub closed_last : (t : List ℕ) (k : Closing) → Some k ≡ closed t → (line : Line) × (last_or None (lines_of t) ≡ Some line) × (k.number ≡ line.number) × (k.place ≡ line.place)
 closed_last t k h =
@@ -88,23 +109,27 @@ closed_last t k h =
     (λ e. let h' : Some k ≡ None = rw e at h in absurd (let z : ◌≡◌ {A = ℕ} 0 1 = cc in omega arith))
     (cases_Bool (ended t))
   where
-    at-line : (k : Closing) (line : Line) (cf : Option (ℕ × ℕ)) → Some k ≡ option_map (λ p. record { number = line.number; place = line.place; count = p.0; next = p.1 }) cf → (k.number ≡ line.number) × (k.place ≡ line.place)
+    at-line : (k : Closing) (line : Line) (cf : Option (ℕ × ℕ)) → Some k ≡ option_map (closing_at line) cf → (k.number ≡ line.number) × (k.place ≡ line.place)
     at-line k line None h = absurd (let z : ◌≡◌ {A = ℕ} 0 1 = cc in omega arith)
-    at-line k line (Some p) h = let e : k ≡ record { number = line.number; place = line.place; count = p.0; next = p.1 } = cc in (ap (λ c. c.number) e, ap (λ c. c.place) e)
+    at-line k line (Some p) h = let e : k ≡ closing_at line p = cc in (ap (λ c. c.number) e, ap (λ c. c.place) e)
 
     at_last : (k : Closing) (l : Option Line) → Some k ≡ closed_at l → (line : Line) × (l ≡ Some line) × (k.number ≡ line.number) × (k.place ≡ line.place)
     at_last k None h = absurd (let z : ◌≡◌ {A = ℕ} 0 1 = cc in omega arith)
     at_last k (Some line) h = let e = at-line k line (closing_of line) h in (line, refl, e.0, e.1)
 
+-- a closing line begins within the text
+pub closed_within : (t : List ℕ) (k : Closing) → Some k ≡ closed t → k.place ≤ length t
+closed_within t k h = let l = closed_last t k h in omega (arith, l.3, last_within t l.0 l.1)
+
 -- what the check answers of a closing line, if it counts the lines above it and if it does not
-pub check_ok : (t a : List ℕ) (k : Closing) → length t ≤ 1024 → Some k ≡ closed t → k.count + 1 ≡ k.number → k.place ≤ length t → a ≡ take k.place t → Ok (record { above = lines_of a; count = k.count; next = k.next; place = length a }) ≡ check_of t
-check_ok t a k short h right within is =
+pub check_ok : (t : List ℕ) (k : Closing) → length t ≤ 1024 → Some k ≡ closed t → k.count + 1 ≡ k.number → Ok (record { above = lines_of (take k.place t); count = k.count; next = k.next; place = length (take k.place t) }) ≡ check_of t
+check_ok t k short h right =
     let l = closed_last t k h in
     let counts = last_counts t l.0 l.1 in
     let small = le-ltb 1024 (length t) short in
     let good = eq-eqb k.count (length (above_last t)) (omega (arith, l.2)) in
-    let above : lines_of a ≡ above_last t = ap lines_of (is ∙ ap (λ p. take p t) l.3) ∙ last_cuts t l.0 l.1 in
-    let place : length a ≡ k.place = ap length is ∙ length-take-le k.place t within in
+    let above : lines_of (take k.place t) ≡ above_last t = ap (λ p. lines_of (take p t)) l.3 ∙ last_cuts t l.0 l.1 in
+    let place = length-take-le k.place t (closed_within t k h) in
     rw (small, ← h, good, above, place)
 
 pub check_miscounted : (t : List ℕ) (k : Closing) → length t ≤ 1024 → Some k ≡ closed t → (k.count + 1 ≡ k.number → ⊥) → Err (fault_of WrongLineCount k.number k.place 0) ≡ check_of t

@@ -1,11 +1,12 @@
 -- What the check of a sheet answers.
 use Rattle.std.specs.Prelude.{ℕ, cond, List, length, Some, None, Ok, Err, Option, Result, ◌==◌, nat_lt}
+use Rattle.std.specs.List.{last_or}
 use Rattle.std.specs.Option.{option_map}
 use Rattle.rules.specs.declared.refusal.Refusal.TheVariants.{SheetTooLong, NoClosingLine, WrongLineCount}
 use Rattle.sheet.specs.declared.fault.Fault.{Fault}
 use Rattle.sheet.specs.declared.check.CheckedSheet.{CheckedSheet}
 use Rattle.sheet.specs.declared.check.Closing.{Closing}
-use Rattle.text.specs.Texts.{Line, lines_of, last_or, but_last, ended}
+use Rattle.text.specs.Texts.{Line, lines_of, but_last, ended}
 use Rattle.text.specs.Readings.{closing_of}
 use Rattle.sheet.specs.Faults.{fault_of}
 
@@ -23,9 +24,13 @@ abbrev pub check_seen : Result CheckedSheet Fault → Result Checked Fault
 check_seen (Ok s) = Ok (sheet_seen s)
 check_seen (Err fault) = Err fault
 
+-- the closing line l with the numbers c and f
+abbrev pub closing_at : Line → ℕ × ℕ → Closing
+closing_at l cf = record { number = l.number; place = l.place; count = cf.0; next = cf.1 }
+
 abbrev pub closed_at : Option Line → Option Closing
 closed_at None = None
-closed_at (Some l) = option_map (λ cf. record { number = l.number; place = l.place; count = cf.0; next = cf.1 }) (closing_of l)
+closed_at (Some l) = option_map (closing_at l) (closing_of l)
 
 -- the closing line: the last line of a text that ends with byte 10, if it has the form `E c f`
 abbrev pub closed : List ℕ → Option Closing

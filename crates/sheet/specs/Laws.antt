@@ -1,11 +1,12 @@
 -- Which texts the check refuses.
 use Rattle.std.specs.Prelude.{◌≡◌, ℕ, ◌<◌, false, ◌⊎◌, List, [], ◌∷◌, length, Some, None, Ok, Err, Option, Result}
+use Rattle.std.specs.List.{last_or}
 use Rattle.rules.specs.declared.refusal.Refusal.{Refusal}
 use Rattle.rules.specs.declared.refusal.Refusal.TheVariants.{SheetTooLong, NoClosingLine, WrongLineCount}
 use Rattle.rules.specs.Rules.{Rule, ◌when◌, Decided}
 use Rattle.sheet.specs.declared.check.Closing.{Closing}
 use Rattle.sheet.specs.declared.fault.Fault.{Fault}
-use Rattle.text.specs.Texts.{ended, lines_of, last_or}
+use Rattle.text.specs.Texts.{ended, lines_of}
 use Rattle.sheet.specs.Checks.{Checked, closed_at, closed, above_last, check_of}
 
 -- the closing line counts another number of lines above it

@@ -8,9 +8,5 @@ use book::book::Book;
 pub fn enter(text: &[u8], book: &mut Book) -> Result<u32, Fault>
     ensures { Enters text.now book.old result book.new }
 {
-    let sheet = UncheckedSheet::new(text);
-    match sheet.check() {
-        Ok(checked) => checked.apply(book),
-        Err(fault) => Err(fault),
-    }
+    UncheckedSheet::new(text).check()?.apply(book)
 }

@@ -1,10 +1,10 @@
 -- The first word of a line and the first line of a text, each with what follows it.
-use Rattle.std.proofs.Common.{◌≡◌, ℕ, suc, ◌+◌, ◌^◌, ◌<◌, eqb, List, [], ◌∷◌, length, Some, None, Option, sym, refl, ap, ◌∙◌, ⊎_elim, add-one, arith}
+use Rattle.std.proofs.Common.{◌≡◌, ℕ, suc, ◌+◌, eqb, List, [], ◌∷◌, length, Some, None, Option, refl, ap, ◌∙◌, ⊎_elim, add-one, arith}
 use Rattle.std.proofs.lemmas.Bool.{cases_Bool}
 use Rattle.text.specs.Texts.{longer, lines_in, words_in, before, after, numbered}
 use Rattle.text.specs.Tokens.{token_of, placed, tokens}
-use Rattle.text.specs.Cursors.{tokens_at, FitsAt}
-use Rattle.text.proofs.Finding.{after_length, before_length}
+use Rattle.text.specs.Cursors.{tokens_at}
+use Rattle.text.proofs.Finding.{after_length}
 
 abbrev pub words_after : Option (List ℕ) → List (List ℕ)
 words_after None = []
@@ -42,21 +42,6 @@ no_line (b ∷ t) h =
 -- a word taken from the words that are left, which begin with s at the place p
 pub next_token : (p : ℕ) (left r : Option (List ℕ)) (s w : List ℕ) → left ≡ Some s → w ≡ before 32 s → r ≡ after 32 s → tokens_at p left ≡ token_of w p ∷ tokens_at (p + (length w + 1)) r
 next_token p left r s w is front rest = rw (is, front, rest, add-one) (first_token p s)
-
-pub next_fits : (p : ℕ) (left r : Option (List ℕ)) (s w : List ℕ) → left ≡ Some s → w ≡ before 32 s → r ≡ after 32 s → FitsAt p left → FitsAt (p + (length w + 1)) r
-next_fits p left None s w is front rest fit = tt
-next_fits p left (Some r) s w is front rest fit =
-    let fits : p + suc (length s) < 2 ^ 64 = rw is at fit in
-    let long = after_length 32 s r (sym rest) in
-    let same = ap length front in
-    omega arith
-
-pub place_fits : (p : ℕ) (left : Option (List ℕ)) (s w : List ℕ) → left ≡ Some s → w ≡ before 32 s → FitsAt p left → p + (length w + 1) < 2 ^ 64
-place_fits p left s w is front fit =
-    let fits : p + suc (length s) < 2 ^ 64 = rw is at fit in
-    let long = before_length 32 s in
-    let same = ap length front in
-    omega arith
 
 -- a line taken from the lines that are left, which are those of t at the place p
 pub next_line : (n p : ℕ) (t r l : List ℕ) → after 10 t ≡ Some r → l ≡ before 10 t → numbered (suc n) p (lines_in t) ≡ record { bytes = l; number = n + 1; place = p } ∷ numbered (suc (n + 1)) (p + (length l + 1)) (lines_in r)

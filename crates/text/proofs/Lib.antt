@@ -1,5 +1,4 @@
 pub mod Finding
-pub mod Decimals
 pub mod Cutting
 pub mod Numerals
 pub mod Writing

@@ -1,9 +1,9 @@
 -- Each line and each token is the part of the text at its place.
-use Rattle.std.proofs.Common.{◌≡◌, ℕ, suc, ◌+◌, eqb, List, [], ◌∷◌, ◌++◌, length, Some, None, Option, sym, refl, ap, ◌∙◌, subst, ⊎_elim, append_assoc, arith, length-append, eqb-true}
-use Rattle.std.specs.List.{AllByRecursion}
+use Rattle.std.proofs.Common.{◌≡◌, ℕ, suc, ◌+◌, ◌≤◌, eqb, List, [], ◌∷◌, ◌++◌, length, Some, None, Option, sym, refl, ap, ◌∙◌, subst, ⊎_elim, append_assoc, arith, length-append, eqb-true}
+use Rattle.std.specs.List.{AllByRecursion, last_or}
 use Rattle.std.proofs.lemmas.Bool.{cases_Bool}
 use Rattle.text.specs.declared.token.Verb.{Verb}
-use Rattle.text.specs.Texts.{longer, lines_in, words_in, numbered, lines_of}
+use Rattle.text.specs.Texts.{Line, longer, lines_in, words_in, numbered, lines_of}
 use Rattle.text.specs.Tokens.{word, verb_of, letter_or, token_of, placed}
 use Rattle.text.specs.Laws.{Stands, TokenStands, LineStands}
 use Rattle.text.proofs.Writing.{spaced, spaced_words, verb_told}
@@ -57,3 +57,13 @@ lines_laid t front rest n p (l ∷ ls) is long =
 
 pub lines_stand : (t : List ℕ) → AllByRecursion (LineStands t) (lines_of t)
 lines_stand t = let k = lines_joined t in lines_laid t [] k.0 1 0 (lines_in t) k.1 refl
+
+last_keeps : {X : Type 0} (P : X → Type 0) (o : Option X) (xs : List X) (x : X) → AllByRecursion P xs → (o ≡ Some x → P x) → last_or o xs ≡ Some x → P x
+last_keeps P o [] x all before is = before is
+last_keeps P o (y ∷ ys) x all before is = last_keeps P (Some y) ys x all.1 (λ e. let same : y ≡ x = cc in subst P same all.0) is
+
+-- the last line begins within the text
+pub last_within : (t : List ℕ) (line : Line) → last_or None (lines_of t) ≡ Some line → line.place ≤ length t
+last_within t line is =
+    let (front, rest, whole, long) = (last_keeps (LineStands t) None (lines_of t) line (lines_stand t) (λ none. absurd (let z : ◌≡◌ {A = ℕ} 0 1 = cc in omega arith)) is).0 in
+    omega (arith, long, ap length whole, length-append front ((line.bytes ++ 10 ∷ []) ++ rest))

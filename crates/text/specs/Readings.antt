@@ -1,6 +1,6 @@
 -- What a line of a sheet says.
 use Rattle.std.specs.Prelude.{ℕ, List, [], ◌∷◌, Some, None, Option}
-use Rattle.std.specs.Option.{option_map}
+use Rattle.std.specs.Option.{option_map, option_and_then}
 use Rattle.rules.specs.declared.change.Change.{Change}
 use Rattle.rules.specs.declared.change.Change.TheVariants as change
 use Rattle.rules.specs.declared.kind.Kind.{Kind}
@@ -54,11 +54,15 @@ closing_by Parallel ts = None
 closing_by Withdraw ts = None
 closing_by Close ts = two_numbers ts
 
+-- the verb that a line begins with, and the words after it
+abbrev pub opening : List Seen → Option (Verb × List Seen)
+opening [] = None
+opening (letter v p ∷ ts) = Some (v, ts)
+opening (word w p ∷ ts) = None
+
 -- what a line says by its first word, which has to be a verb, and the words after it
 abbrev pub by_verb : {X : Type 0} → (Verb → List Seen → Option X) → List Seen → Option X
-by_verb says [] = None
-by_verb says (letter v p ∷ ts) = says v ts
-by_verb says (word w p ∷ ts) = None
+by_verb says ts = option_and_then (λ o. says o.0 o.1) (opening ts)
 
 -- the change that a line asks for, if it has a known form above the closing line
 abbrev pub change_of : Line → Option Change

@@ -34,20 +34,7 @@ numbered n p (line ∷ lines) = record { bytes = line; number = n; place = p } �
 abbrev pub lines_of : List ℕ → List Line
 lines_of text = numbered 1 0 (lines_in text)
 
--- the first of a list, and the others
-abbrev pub first : {X : Type 0} → List X → Option X
-first [] = None
-first (x ∷ xs) = Some x
-
-abbrev pub others : {X : Type 0} → List X → List X
-others [] = []
-others (x ∷ xs) = xs
-
--- the last of a list, or d if it is empty; and those before it
-abbrev pub last_or : {X : Type 0} → Option X → List X → Option X
-last_or d [] = d
-last_or d (x ∷ xs) = last_or (Some x) xs
-
+-- the elements of a list before the last
 abbrev pub but_last : {X : Type 0} → List X → List X
 but_last [] = []
 but_last (x ∷ []) = []

@@ -7,20 +7,15 @@ pub fn cut<'a>(text: &'a [u8], byte: u8) -> (&'a [u8], Option<&'a [u8]>)
     ensures front { result.0.now ≡ before byte text.now }
     ensures rest { option_map (λ x. x.now) result.1 ≡ after byte text.now }
 {
-    for (i, b) in text.iter().enumerate() {
-        if *b == byte {
-            return (&text[0..i], Some(&text[i + 1..]));
-        }
+    match text.iter().position(|b| *b == byte) {
+        Some(i) => (&text[..i], Some(&text[i + 1..])),
+        None => (text, None),
     }
-    (text, None)
 }
 
 // Whether the last byte is byte 10.
 pub fn is_ended(text: &[u8]) -> bool
     ensures { result ≡ ended text.now }
 {
-    match text.last() {
-        None => false,
-        Some(byte) => *byte == b'\n',
-    }
+    text.last() == Some(&b'\n')
 }

@@ -6,15 +6,9 @@ pub fn read_number(word: &[u8]) -> Option<u32>
     ensures { result ≡ number_in word.now }
 {
     match word {
-        [] => None,
-        [b'0', _, ..] => None,
-        _ => {
-            if word.len() > 5 {
-                None
-            } else {
-                read_digits(word)
-            }
-        }
+        [] | [b'0', _, ..] => None,
+        _ if word.len() > 5 => None,
+        _ => read_digits(word),
     }
 }
 
@@ -23,12 +17,9 @@ fn read_digits(word: &[u8]) -> Option<u32>
     requires { length word.now ≤ 5 }
     ensures { result ≡ decimal_after 0 word.now }
 {
-    let mut n: u32 = 0;
+    let mut n = 0;
     for b in word {
-        match *b {
-            b'0'..=b'9' => n = n * 10 + (*b - b'0') as u32,
-            _ => return None,
-        }
+        n = n * 10 + char::from(*b).to_digit(10)?;
     }
     Some(n)
 }

@@ -22,6 +22,7 @@ pub enum Token<'a> {
 }
 
 impl Verb {
+    // An Option and no TryFrom: nothing asks why a letter is no verb.
     pub fn from_letter(letter: char) -> Option<Verb>
         ensures { result ≡ verb_of letter }
     {

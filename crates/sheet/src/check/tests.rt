@@ -2,10 +2,8 @@ use super::*;
 
 // How many bytes stand above the closing line, its count and its next number.
 fn checked(text: &[u8]) -> Result<(usize, u32, u32), Fault> {
-    match UncheckedSheet::new(text).check() {
-        Ok(CheckedSheet { above, count, next }) => Ok((above.len(), count, next)),
-        Err(fault) => Err(fault),
-    }
+    let CheckedSheet { above, count, next } = UncheckedSheet::new(text).check()?;
+    Ok((above.len(), count, next))
 }
 
 fn refused(refusal: Refusal, line: usize, place: usize) -> Result<(usize, u32, u32), Fault> {

@@ -1,29 +1,22 @@
-use Rattle.std.proofs.Common.{◌≡◌, suc, ◌+◌, ◌-◌, length, take, drop, Some, ap, ◌∙◌, arith}
+use Rattle.std.proofs.Common.{rules, ◌+◌, length, Some, eqb, sym, ap, ◌∙◌, arith}
+use Rattle.std.proofs.lemmas.Iterator.{YieldsList-from_slice}
+use Rattle.std.proofs.lemmas.Iterator.Search.{position_from_yields_List}
 use Rattle.std.proofs.lemmas.Slice.{between_to_end}
-use Rattle.text.proofs.Finding.{up_to, up_to_here, up_to_past, up_to_end, before_is, after_some, all_before, none_after}
+use borrow.Author.Tests.{tests}
+use Rattle.text.proofs.Finding.{cut_at, uncut}
 use Rattle.text.proofs.bytes.cut.Goals as goal
 
-pub returns-then-b-byte : goal.returns-then-b-byte
-returns-then-b-byte c =
+pub returns-in-Some : goal.returns-in-Some
+returns-in-Some c =
     let t = c.args.text.now in
-    let b = c.args.byte in
-    let i = c.loop-i.i in
-    let here = up_to_here b i t (omega arith) c.if-b-byte.true in
-    let at : i - 0 ≡ up_to b t = omega arith in
-    let next : i + 1 ≡ suc (up_to b t) = omega arith in
-    record {
-      front = ap (λ n. take n t) at ∙ before_is b t;
-      rest = ap Some (between_to_end t (i + 1) (length t) (omega arith) ∙ ap (λ n. drop n t) next) ∙ after_some b t (omega arith);
-    }
+    let i = c.in-Some.i in
+    let at = position_from_yields_List (λ x. eqb x c.args.byte) _ _ _ c.position.ensures.ran (YieldsList-from_slice t cc) (λ x b q k. search (rules, tests)) in
+    let k = cut_at c.args.byte i t (sym at ∙ c.in-Some.is) in
+    record { front = k.0; rest = ap Some (between_to_end t (i + 1) (length t) (omega arith)) ∙ k.1 }
 
-pub loop-i-preserved : goal.loop-i-preserved
-loop-i-preserved c =
-    let e = up_to_past c.args.byte c.loop-i.i c.args.text.now (omega arith) c.if-b-byte.false in omega arith
-
-pub returns : goal.returns
-returns c =
-    let e = up_to_end c.args.byte c.loop-i.i c.args.text.now (omega arith) in
-    record {
-      front = all_before c.args.byte c.args.text.now (omega arith);
-      rest = none_after c.args.byte c.args.text.now (omega arith);
-    }
+pub returns-in-None : goal.returns-in-None
+returns-in-None c =
+    let t = c.args.text.now in
+    let at = position_from_yields_List (λ x. eqb x c.args.byte) _ _ _ c.position.ensures.ran (YieldsList-from_slice t cc) (λ x b q k. search (rules, tests)) in
+    let k = uncut c.args.byte t (sym at ∙ c.in-None.is) in
+    record { front = k.0; rest = k.1 }

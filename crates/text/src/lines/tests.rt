@@ -1,4 +1,6 @@
 use super::*;
+use rules::kind::Kind;
+use rules::part_number::PartNumber;
 
 fn change(bytes: &[u8]) -> Option<Change> {
     if bytes.len() > 99 {
