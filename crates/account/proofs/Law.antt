@@ -22,10 +22,9 @@ use Rattle.sums.specs.Semiring.{Meaning}
 use Rattle.book.specs.declared.book.Book.{Book}
 use Rattle.book.specs.Keeps.{Keeps, Makes}
 use Rattle.book.specs.Snapshots.{Same}
-use Rattle.plan.specs.Plans.{Structure, LawfulPlan}
 use Rattle.plan.specs.LinePlans.{plan_of_line as planned_line}
-use Rattle.plan.specs.Piles.{Layer, piled}
-use Rattle.plan.proofs.Piles.{piled_lawful}
+use Rattle.plan.specs.Piles.{piled}
+use Rattle.plan.specs.PilesLemmas.{piled_lawful}
 use Rattle.count.proofs.Steps.{step_up}
 use Rattle.agreement.proofs.Agreement.{ways_agree_lem}
 use Rattle.survey.specs.declared.bench.Sums.{Sums}
@@ -213,8 +212,8 @@ at_its_place {F} m h l n e old =
     slice_get-get_or (sums ++ rest) (place_in h n) d (omega (arith, length-append sums rest))
     ∙ ap Some (get_or_append_left sums rest d (place_in h n) here ∙ sum_at m h (place_in h n) d a.0 ∙ ap (sums_of m h) a.1)
 
-pub whole_runs : {I : Type 0} {F : I → Type 0} (meaning : (i : I) → Meaning (F i)) {P : Type 0} (plan : P → Structure) → ((p : P) → LawfulPlan (plan p)) → WholeRuns meaning plan
-whole_runs {I} {F} meaning {P} plan laws = record {
+pub whole_runs : {I : Type 0} {F : I → Type 0} (meaning : (i : I) → Meaning (F i)) → WholeRuns meaning
+whole_runs {I} {F} meaning = record {
   ruled = λ later c before b run. (now_ruled later c before b run).1;
   surveyed = λ later before i n place old new b run.
       let k = now_ruled later (reading (survey i n old (Ok place) new)) before b run in
@@ -227,14 +226,11 @@ whole_runs {I} {F} meaning {P} plan laws = record {
   gone = λ later c before b run n out names.
       let k = now_ruled later c before b run in
       out_refused meaning c n (history before) (taken_out (history before) n k.0 out) names k.1;
-  lawful = piled_laws;
-  steps_up = λ p layers. step_up (piled layers (plan p)) (piled_laws p layers);
+  lawful = λ p layers laws. piled_lawful layers p laws;
+  steps_up = λ p layers laws. step_up (piled layers p) (piled_lawful layers p laws);
   counted = λ later before p layers old new b run.
-      (now_ruled later (reading (long_count (piled layers (plan p)) old (Ok tt) new)) before b run).1.answer.1.counts;
+      (now_ruled later (reading (long_count (piled layers p) old (Ok tt) new)) before b run).1.answer.1.counts;
 }
   where
     now_ruled : (later : List (Call I F)) (c : Call I F) (before : List (Call I F)) (b : Book) → Run meaning (later ++ c ∷ before) b → Lawful (history before) × Ruled meaning (history before) c
     now_ruled later c before b run = let m = moment meaning later (c ∷ before) b run in newest_ruled meaning c before m.0 m.1
-
-    piled_laws : (p : P) (layers : List Layer) → LawfulPlan (piled layers (plan p))
-    piled_laws p layers = piled_lawful layers (plan p) (laws p)

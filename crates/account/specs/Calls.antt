@@ -1,5 +1,6 @@
 -- What is asked of a book and answered, and what the rules say of it. No book stands here.
 use Rattle.std.specs.Prelude.{◌≡◌, ℕ, zero, suc, ◌+◌, false, ◌⊎◌, List, [], ◌∷◌, length, is_ok, Ok, Err, Result, MatchResult}
+use Rattle.rules.specs.declared.by_type.ByType.{ByType}
 use Rattle.rules.specs.declared.change.Change.{Change}
 use Rattle.rules.specs.declared.change.Change.TheVariants.{Issue, Join, Withdraw}
 use Rattle.rules.specs.declared.line.Line.{Line}
@@ -19,7 +20,6 @@ use Rattle.survey.specs.declared.bench.Sums.{Sums}
 use Rattle.survey.specs.Surveys.{SurveyRuled, left_on}
 use Rattle.row.specs.Rows.{RowRuled}
 use Rattle.survival.specs.declared.fixed_point.FixedPoint.{FixedPoint}
-use Rattle.survival.specs.declared.shares.Shares.{Shares}
 use Rattle.survival.specs.Ruled.{SurvivalRuled}
 use Rattle.sheet.specs.declared.fault.Fault.{Fault}
 use Rattle.sheet.specs.Checks.{above_last}
@@ -33,7 +33,7 @@ pub data Reading (I : Type 0) (F : I → Type 0) : Type 0 where
   question : ℕ → Result Line Refusal → Reading I F
   survey : (i : I) → ℕ → List (Sums (F i)) → Result ℕ Refusal → List (Sums (F i)) → Reading I F
   row : ℕ → List (Sums CellTable) → List ℕ → Result (Unit {0}) Refusal → List (Sums CellTable) → List ℕ → Reading I F
-  survival : ℕ → Shares → Result (FixedPoint × FixedPoint) Refusal → Reading I F
+  survival : ℕ → ByType ℕ → Result (FixedPoint × FixedPoint) Refusal → Reading I F
   plan_of_line : ℕ → Result Structure Refusal → Reading I F
   lockout : ℕ → Result LockedPlace Refusal → Reading I F
   long_count : Structure → CellTable → Result (Unit {0}) Refusal → CellTable → Reading I F

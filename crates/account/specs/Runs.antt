@@ -8,7 +8,8 @@ use Rattle.sums.specs.Semiring.{Meaning}
 use Rattle.cells.specs.declared.table.CellTable.{CellTable}
 use Rattle.plan.specs.Plans.{Structure, LawfulPlan}
 use Rattle.plan.specs.Lockouts.{LockoutRuled}
-use Rattle.plan.specs.Piles.{Layer, piled}
+use Rattle.plan.specs.declared.pile.Layer.{Layer}
+use Rattle.plan.specs.Piles.{piled}
 use Rattle.plan.specs.LinePlans.{PlanRuled}
 use Rattle.count.specs.Counts.{working_states}
 use Rattle.count.specs.Laws.{Holds, StepUp, CountRuled}
@@ -43,9 +44,9 @@ abbrev pub Run : {I : Type 0} {F : I → Type 0} → ((i : I) → Meaning (F i))
 Run meaning [] b = Keeps [] b
 Run meaning (c ∷ cs) b' = (b : Book) × Run meaning cs b × Step meaning c b b'
 
--- The law of whole runs, for surveys under a family of tallies, and for plans of a type P. Each moment
--- of a run is itself a run.
-pub record WholeRuns {I : Type 0} {F : I → Type 0} (meaning : (i : I) → Meaning (F i)) {P : Type 0} (plan : P → Structure) : Type 0 where
+-- The law of whole runs, for surveys under a family of tallies, and for every plan that keeps the laws of
+-- plans. Each moment of a run is itself a run.
+pub record WholeRuns {I : Type 0} {F : I → Type 0} (meaning : (i : I) → Meaning (F i)) : Type 0 where
   -- each call was accepted, answered or refused as the rules say of the accepted calls before it alone
   pub ruled : (later : List (Call I F)) (c : Call I F) (before : List (Call I F)) (b : Book)
       → Run meaning (later ++ c ∷ before) b → Ruled meaning (history before) c
@@ -67,13 +68,13 @@ pub record WholeRuns {I : Type 0} {F : I → Type 0} (meaning : (i : I) → Mean
   -- a number once withdrawn is refused by every later call, and every later sheet, that names it
   pub gone : (later : List (Call I F)) (c : Call I F) (before : List (Call I F)) (b : Book)
       → Run meaning (later ++ c ∷ before) b → (n : ℕ) → TakenOut n (history before) → Names n c → IsRefused c
-  -- any pile of lockouts and mirrors over a plan keeps the laws of plans, and the numbers of states in
+  -- any pile of lockouts and mirrors over a lawful plan keeps the laws of plans, and the numbers of states in
   -- which it works step up; where the long count took the pile, it left just these numbers
-  pub lawful : (p : P) (layers : List Layer) → LawfulPlan (piled layers (plan p))
-  pub steps_up : (p : P) (layers : List Layer) → StepUp (piled layers (plan p)) (working_states (piled layers (plan p)))
-  pub counted : (later before : List (Call I F)) (p : P) (layers : List Layer) (old new : CellTable) (b : Book)
-      → Run meaning (later ++ reading (long_count (piled layers (plan p)) old (Ok tt) new) ∷ before) b
-      → Holds new.cells (working_states (piled layers (plan p)))
+  pub lawful : (p : Structure) (layers : List Layer) → LawfulPlan p → LawfulPlan (piled layers p)
+  pub steps_up : (p : Structure) (layers : List Layer) → LawfulPlan p → StepUp (piled layers p) (working_states (piled layers p))
+  pub counted : (later before : List (Call I F)) (p : Structure) (layers : List Layer) (old new : CellTable) (b : Book)
+      → Run meaning (later ++ reading (long_count (piled layers p) old (Ok tt) new) ∷ before) b
+      → Holds new.cells (working_states (piled layers p))
 
 -- whatever was called on the book before, the call goes on the run
 abbrev pub GoesOn : {I : Type 0} {F : I → Type 0} → ((i : I) → Meaning (F i)) → Call I F → Book → Book → Type 0

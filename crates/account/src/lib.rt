@@ -9,7 +9,6 @@ ghost use Rattle.account.specs.Runs.{WholeRuns, Accounts};
 ghost use Rattle.account.specs.Tallies.{meanings};
 
 use book::book::Book;
-use plan::Plan;
 use tally::Tally;
 
 // How the numbers of a book were used.
@@ -24,8 +23,8 @@ pub struct Numbers {
 // book does not count its withdrawals: they are what is left, since every run of calls keeps the law
 // that numbers given are lines standing and withdrawals made. T is any tally under which the book was
 // surveyed on the way.
-pub fn account<T: Tally, P: Plan>(book: &Book) -> Numbers
-    ensures runs { WholeRuns (meanings T.Tally.meaning) P.Plan.meaning }
+pub fn account<T: Tally>(book: &Book) -> Numbers
+    ensures runs { WholeRuns (meanings T.Tally.meaning) }
     ensures here { Accounts book.now result.given result.standing result.withdrawn }
 {
     let given = book.last_number();

@@ -2,7 +2,6 @@ use crate::calls::{enter, survey};
 use crate::{Numbers, account};
 use book::book::Book;
 use cells::table::CellTable;
-use plan::path_list::PathList;
 use rules::part_number::PartNumber;
 use rules::refusal::Refusal;
 use signature::Signature;
@@ -95,7 +94,7 @@ fn numbers(rt: HostRuntime) -> Result<(), Fail> {
     let mut book = five_lines(&rt, rt.alloc())?;
     let _ = book.withdraw(PartNumber::new(5));
     assert_eq!(rt;
-        account::<Count, PathList>(&book),
+        account::<Count>(&book),
         Numbers {
             given: 5,
             standing: 4,

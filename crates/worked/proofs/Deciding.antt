@@ -9,7 +9,6 @@ use Rattle.rules.specs.History.{History, given, standing, is_built_in, items_sta
 use Rattle.rules.specs.Rules.{Rule, ◌when◌, Allowed}
 use Rattle.rules.specs.Ruled.{naming, using_line, change_rules, Lawful}
 use Rattle.plan.specs.Deciding.{allowed_append}
-use Rattle.book.proofs.Steps.{use_allowed}
 
 pub some_not_none : {X : Type 0} (o : Option X) → is_some o ≡ true → o ≡ None → ⊥
 some_not_none o on e = both_ways (is_some o) (ap is_some e) on
@@ -39,7 +38,9 @@ can_use h n = can_name h n && not (is_built_in h n)
 pub usable : (h : History) (n : ℕ) → can_use h n ≡ true → Allowed (using_line h n)
 usable h n e =
     let (named, free) = and_parts (can_name h n) (not (is_built_in h n)) e in
-    use_allowed h n (name_allowed h n named) (not-true (is_built_in h n) free)
+    let a = name_allowed h n named in
+    let off = not-true (is_built_in h n) free in
+    (a.0, (a.1.0, ((λ on. both_ways (is_built_in h n) off on), tt)))
 
 -- a change that may be made
 abbrev pub can_make : History → Change → Bool

@@ -1,8 +1,10 @@
 -- The cheapest loss and the survival of the example's lines.
 use Rattle.std.proofs.Common.{◌≡◌, ℕ, ◌+◌, ◌*◌, ◌≤◌, Bool, true, false, ◌&&◌, ◌||◌, is_some, Some, Option, sym, refl, ap, subst, inl, inr, ⊎_elim, arith, lit≤}
 use Rattle.std.proofs.lemmas.Bool.{true≢false, cases_lt}
+use Rattle.rules.specs.declared.by_type.ByType.{ByType}
 use Rattle.rules.specs.declared.item_type.ItemType.{ItemType}
 use Rattle.rules.specs.declared.item_type.ItemType.TheVariants.{One, Two, Three}
+use Rattle.rules.specs.ByType.{of_type}
 use Rattle.rules.specs.History.{standing}
 use Rattle.rules.specs.Rules.{Allowed}
 use Rattle.rules.specs.Ruled.{naming}
@@ -14,9 +16,8 @@ use Rattle.tally.specs.Losses.{item_loss, CheapestLoss}
 use Rattle.tally.proofs.Losses.{cheapest_loss_stands_lem}
 use Rattle.plan.specs.Deciding.{allowed_append}
 use Rattle.survey.specs.Surveys.{sums_of}
-use Rattle.survival.specs.declared.shares.Shares.{Shares}
 use Rattle.survival.specs.LowHigh.{S, down, up, low, high, Encloses}
-use Rattle.survival.specs.Ruled.{share_of, share_rules, survival_rules, SurvivalOf}
+use Rattle.survival.specs.Ruled.{share_rules, survival_rules, SurvivalOf}
 use Rattle.survival.proofs.Enclosing.{encloses}
 use Rattle.worked.specs.Worked.{example, half_shares}
 use Rattle.worked.proofs.Deciding.{name_allowed, lawful}
@@ -50,13 +51,13 @@ failing_65 p one two =
     (cheapest_loss_stands_lem p (type_in example) (tree_of example 5) (lit≤ tt)) (cheapest p one two)
 
 -- shares that may be used
-share_limited : (s : Shares) → Allowed (share_rules s) → (t : ItemType) → share_of s t ≤ S
+share_limited : (s : ByType ℕ) → Allowed (share_rules s) → (t : ItemType) → of_type s t ≤ S
 share_limited s a One = ⊎_elim (λ high. absurd (a.0 (inl high))) (λ e. e) (cases_lt S s.one)
 share_limited s a Two = ⊎_elim (λ high. absurd (a.0 (inr (inl high)))) (λ e. e) (cases_lt S s.two)
 share_limited s a Three = ⊎_elim (λ high. absurd (a.0 (inr (inr high)))) (λ e. e) (cases_lt S s.three)
 
-survives : (s : Shares) → Allowed (share_rules s) → (n : ℕ) → is_some (standing example n) ≡ true → (l u : ℕ)
-    → l ≡ low (share_of s) (type_in example) (tree_of example n) → u ≡ high (share_of s) (type_in example) (tree_of example n) → SurvivalOf example n s l u
+survives : (s : ByType ℕ) → Allowed (share_rules s) → (n : ℕ) → is_some (standing example n) ≡ true → (l u : ℕ)
+    → l ≡ low (of_type s) (type_in example) (tree_of example n) → u ≡ high (of_type s) (type_in example) (tree_of example n) → SurvivalOf example n s l u
 survives s a n on l u low_is high_is =
     let types = type_in example in
     let x = tree_of example n in
@@ -64,9 +65,9 @@ survives s a n on l u low_is high_is =
       low_is = low_is;
       high_is = high_is;
       encloses =
-          subst (λ (i : ℕ). Encloses (share_of s) types x i u) (sym low_is)
-          (subst (λ (i : ℕ). Encloses (share_of s) types x (low (share_of s) types x) i) (sym high_is)
-          (encloses (share_of s) (share_limited s a) example (lawful example refl) n on));
+          subst (λ (i : ℕ). Encloses (of_type s) types x i u) (sym low_is)
+          (subst (λ (i : ℕ). Encloses (of_type s) types x (low (of_type s) types x) i) (sym high_is)
+          (encloses (of_type s) (share_limited s a) example (lawful example refl) n on));
     }
 
 halves : Allowed (share_rules half_shares)
@@ -78,5 +79,5 @@ survival_of_5 = (
   survives half_shares halves 5 refl 671088640 671088640 refl refl,
 )
 
-pub survival_of_4 : (s : Shares) → Allowed (survival_rules example 4 s) → s.one ≡ 1 → SurvivalOf example 4 s 0 1
+pub survival_of_4 : (s : ByType ℕ) → Allowed (survival_rules example 4 s) → s.one ≡ 1 → SurvivalOf example 4 s 0 1
 survival_of_4 s a e = survives s a.1.1 4 refl 0 1 (sym (ap (λ n. down (n * n)) e)) (sym (ap (λ n. up (n * n)) e))

@@ -8,13 +8,12 @@ use Rattle.rules.specs.declared.refusal.Refusal.TheVariants.{TooManyItems, TooMa
 use Rattle.rules.specs.Types.{type_number, type_numbered}
 use Rattle.rules.specs.Rules.{Allowed, Refused}
 use Rattle.rules.specs.Ruled.{naming, change_rules, Lawful}
-use Rattle.book.proofs.Steps.{use_refused}
 use Rattle.survey.specs.Surveys.{survey_rules}
 use Rattle.worked.specs.Worked.{line, example, with_6, issued, sixteen}
 use Rattle.worked.proofs.Deciding.{some_not_none, was_given, name_allowed, lawful}
 
 pub withdraw_4 : Refused (change_rules example (Withdraw (line 4))) BuiltIn
-withdraw_4 = use_refused example 4 (name_allowed example 4 refl) refl
+withdraw_4 = let a = name_allowed example 4 refl in inr (a.0, inr (a.1.0, inl (refl, refl)))
 
 pub survey_5 : (k : Kind) (places : ℕ) → Refused (survey_rules (with_6 k) 5 places) Withdrawn
 survey_5 k places = inr (was_given (with_6 k) 5 refl, inl (refl, refl))

@@ -1,5 +1,6 @@
 -- The worked examples of the rules.
 use Rattle.std.specs.Prelude.{◌≡◌, ℕ, zero, suc, ◌+◌, ◌*◌, ◌/◌, ◌≤◌, List, [], ◌∷◌, replicate}
+use Rattle.rules.specs.declared.by_type.ByType.{ByType}
 use Rattle.rules.specs.declared.change.Change.{Change}
 use Rattle.rules.specs.declared.change.Change.TheVariants.{Issue, Join, Withdraw}
 use Rattle.rules.specs.declared.item_type.ItemType.{ItemType}
@@ -25,12 +26,11 @@ use Rattle.signature.specs.Signature.{signature}
 use Rattle.place_set.specs.declared.PlaceSet.{PlaceSet}
 use Rattle.plan.specs.Lockouts.{lockout_rules}
 use Rattle.plan.specs.Plans.{Structure, locked_out, mirrored}
-use Rattle.plan.specs.Paths.{plan_of_paths, path_list_rules}
+use Rattle.plan.specs.Paths.{types_of, plan_of_paths, path_list_rules}
 use Rattle.plan.specs.LinePlans.{plan_of_line}
 use Rattle.count.specs.Counts.{working_states, count_rules}
 use Rattle.survey.specs.Surveys.{sums_of, survey_rules}
 use Rattle.row.specs.Rows.{FailureRow, row_rules}
-use Rattle.survival.specs.declared.shares.Shares.{Shares}
 use Rattle.survival.specs.LowHigh.{S}
 use Rattle.survival.specs.Ruled.{survival_rules, SurvivalOf}
 
@@ -74,7 +74,7 @@ abbrev pub of_one_type : ItemType → History
 of_one_type t = five_lines (type_number t) (type_number t) (type_number t)
 
 -- half of S for every type
-abbrev pub half_shares : Shares
+abbrev pub half_shares : ByType ℕ
 half_shares = record { one = S / 2; two = S / 2; three = S / 2 }
 
 -- types 1, 1 and 2 at the places 0, 1 and 2, and the other 13 places empty
@@ -86,7 +86,7 @@ abbrev pub example_paths : List PlaceSet
 example_paths = record { mask = 3 } ∷ record { mask = 4 } ∷ []
 
 abbrev pub example_plan : Structure
-example_plan = plan_of_paths example_types example_paths
+example_plan = plan_of_paths (types_of example_types) example_paths
 
 -- the example book without line 5, and then with the lines 3 and 4 joined
 abbrev pub without_5 : History
@@ -120,7 +120,7 @@ pub record WorkedExamples : Type 0 where
   pub survival_5 : Allowed (survival_rules example 5 half_shares) × SurvivalOf example 5 half_shares 671088640 671088640
   -- With the share 1 for type 1, whatever allowed shares the others have, the low of line 4 is 0 and
   -- its high is 1.
-  pub survival_4 : (s : Shares) → Allowed (survival_rules example 4 s) → s.one ≡ 1 → SurvivalOf example 4 s 0 1
+  pub survival_4 : (s : ByType ℕ) → Allowed (survival_rules example 4 s) → s.one ≡ 1 → SurvivalOf example 4 s 0 1
   -- The plan of line 5 has the example's cells too.
   pub plan_5 : HasCells (plan_of_line example 5) example_cells
   -- PATH LIST. It is not refused, and has the example's cells.

@@ -24,6 +24,6 @@ overflow_sub-result g c = few g c
 
 pub returns : goal.returns
 returns g c = record {
-  runs = whole_runs (meanings g.T.Tally.meaning) g.P.Plan.meaning g.met.P.Plan.lawful;
+  runs = whole_runs (meanings g.T.Tally.meaning);
   here = λ h k. let e = c.last_number-given.ensures h k in (e, standing g c h k, omega (arith, standing g c h k, balance h k.lawful));
 }
