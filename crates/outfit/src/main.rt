@@ -3,8 +3,6 @@
 use book::book::Book;
 use rules::part_number::PartNumber;
 use sheet::entering::enter;
-use sheet::fault::Fault;
-use std::io;
 use std::io::Read;
 use survey::bench::{Bench, Sums};
 use survey::items::items_beneath;
@@ -22,20 +20,12 @@ fn main(rt: HostRuntime) -> anyhow::Result<()> {
     let mut book = Book::new(rt.alloc())?;
     match enter(&text, &mut book) {
         Ok(_) => print_book(&rt, &book)?,
-        Err(fault) => print_fault(&rt, &fault)?,
+        Err(fault) => println!(rt; "{fault}")?,
     }
     Ok(())
 }
 
-fn print_fault(rt: &impl Print, fault: &Fault) -> io::Result<()> {
-    let refusal = fault.refusal.number();
-    let line = fault.line;
-    let place = fault.place;
-    let number = fault.number;
-    println!(rt; "refused {refusal} line {line} place {place} number {number}")
-}
-
-fn print_book(rt: &impl Print, book: &Book) -> io::Result<()> {
+fn print_book(rt: &impl Print, book: &Book) -> anyhow::Result<()> {
     println!(rt; "line items work fail")?;
     let nothing = Sums {
         working: StateCount::new(0),
@@ -57,18 +47,11 @@ fn print_line(
     book: &Book,
     number: PartNumber,
     bench: &mut Bench<StateCount>,
-) -> io::Result<()> {
-    let line = number.get();
-    let Ok(items) = items_beneath(book, number) else {
-        return Ok(());
-    };
-    let Ok(place) = survey(book, number, &Count, bench) else {
-        return Ok(());
-    };
-    let Some(sums) = bench.get(place) else {
-        return Ok(());
-    };
-    let work = sums.working.get();
-    let fail = sums.failing.get();
-    println!(rt; "{line} {items} {work} {fail}")
+) -> anyhow::Result<()> {
+    let items = items_beneath(book, number)?;
+    let place = survey(book, number, &Count, bench)?;
+    if let Some(Sums { working, failing }) = bench.get(place) {
+        println!(rt; "{number} {items} {working} {failing}")?;
+    }
+    Ok(())
 }

@@ -1,18 +1,17 @@
 use crate::command::Command;
 use crate::figures::{show_row, show_survey};
 use crate::piles::{show_paths, show_plan};
-use account::account;
+use account::{Numbers, account};
 use book::book::Book;
 use line_plan::LinePlan;
-use plan::path_list::PathList;
-use rules::kind::Kind;
 use rules::line::{Line, Part};
 use rules::part_number::PartNumber;
 use rules::refusal::Refusal;
 use sheet::entering::enter;
-use sheet::fault::{Fault, Layer};
+use sheet::fault::Fault;
 use signature::Signature;
 use std::alloc::Global;
+use std::fmt::Display;
 use std::io;
 use std::io::Write;
 use survival::fixed_point::FixedPoint;
@@ -32,16 +31,16 @@ pub fn answer<W: Write>(
             *book = Book::new(heap)?;
             writeln!(out, "new")?;
         }
-        Command::Issue(item_type) => show_number(book.issue(item_type), out)?,
-        Command::Join(kind, a, b) => show_number(book.join(kind, a, b), out)?,
-        Command::Withdraw(number) => show_number(book.withdraw(number), out)?,
-        Command::Churn(item_type, times) => show_number(churn(book, item_type, times), out)?,
+        Command::Issue(item_type) => show("number", book.issue(item_type), out)?,
+        Command::Join(kind, a, b) => show("number", book.join(kind, a, b), out)?,
+        Command::Withdraw(number) => show("number", book.withdraw(number), out)?,
+        Command::Churn(item_type, times) => show("number", churn(book, item_type, times), out)?,
         Command::Question(number) => show_line(book.question(number), out)?,
         Command::Sheet(text) => show_sheet(enter(&text, book), out)?,
         Command::Count(asked) => show_survey(heap, book, &Count, asked, out)?,
         Command::Prices(one, two, three, asked) => match Prices::new(one, two, three) {
             Ok(prices) => show_survey(heap, book, &prices, asked, out)?,
-            Err(refusal) => show_refusal(refusal, out)?,
+            Err(refusal) => writeln!(out, "{refusal}")?,
         },
         Command::Signature(asked) => show_survey(heap, book, &Signature, asked, out)?,
         Command::Survival(number, shares) => show_bounds(survival(book, number, shares), out)?,
@@ -65,40 +64,28 @@ fn churn(book: &mut Book, item_type: u32, times: u32) -> Result<PartNumber, Refu
     Ok(last)
 }
 
-pub fn show_refusal<W: Write>(refusal: Refusal, out: &mut W) -> io::Result<()> {
-    let number = refusal.number();
-    writeln!(out, "refused {number}")
-}
-
-fn show_number<W: Write>(answer: Result<PartNumber, Refusal>, out: &mut W) -> io::Result<()> {
+// Shows what a call answered, after a word that says what it is, or why the call was refused.
+pub fn show<A: Display + Drop, W: Write>(
+    word: &str,
+    answer: Result<A, Refusal>,
+    out: &mut W,
+) -> io::Result<()> {
     match answer {
-        Ok(number) => {
-            let number = number.get();
-            writeln!(out, "number {number}")
-        }
-        Err(refusal) => show_refusal(refusal, out),
+        Ok(value) => writeln!(out, "{word} {value}"),
+        Err(refusal) => writeln!(out, "{refusal}"),
     }
 }
 
 fn show_line<W: Write>(answer: Result<Line, Refusal>, out: &mut W) -> io::Result<()> {
-    let line = match answer {
-        Ok(line) => line,
-        Err(refusal) => return show_refusal(refusal, out),
-    };
-    let place = if line.is_free() { "free" } else { "built-in" };
-    match line.part {
-        Part::Item(item_type) => {
-            let item_type = item_type.number();
-            writeln!(out, "item {item_type} {place}")
+    match answer {
+        Ok(line) => {
+            let place = if line.is_free() { "free" } else { "built-in" };
+            match line.part {
+                Part::Item(item_type) => writeln!(out, "item {item_type} {place}"),
+                Part::Block(kind, a, b) => writeln!(out, "{kind} {a} {b} {place}"),
+            }
         }
-        Part::Block(kind, a, b) => {
-            let kind = match kind {
-                Kind::Series => "series",
-                Kind::Parallel => "parallel",
-            };
-            let (a, b) = (a.get(), b.get());
-            writeln!(out, "{kind} {a} {b} {place}")
-        }
+        Err(refusal) => writeln!(out, "{refusal}"),
     }
 }
 
@@ -106,15 +93,16 @@ fn show_sheet<W: Write>(answer: Result<u32, Fault>, out: &mut W) -> io::Result<(
     match answer {
         Ok(count) => writeln!(out, "accepted {count}"),
         Err(fault) => {
-            let refusal = fault.refusal.number();
-            let layer = match fault.layer {
-                Layer::Sheet => "sheet",
-                Layer::Book => "book",
-            };
-            let (line, place, number) = (fault.line, fault.place, fault.number);
+            let Fault {
+                layer,
+                refusal,
+                line,
+                place,
+                number,
+            } = fault;
             writeln!(
                 out,
-                "refused {refusal} layer {layer} line {line} place {place} number {number}"
+                "{refusal} layer {layer} line {line} place {place} number {number}"
             )
         }
     }
@@ -125,17 +113,18 @@ fn show_bounds<W: Write>(
     out: &mut W,
 ) -> io::Result<()> {
     match answer {
-        Ok(bounds) => {
-            let (low, high) = (bounds.0.units(), bounds.1.units());
-            writeln!(out, "low {low} high {high}")
-        }
-        Err(refusal) => show_refusal(refusal, out),
+        Ok((low, high)) => writeln!(out, "low {} high {}", low.units(), high.units()),
+        Err(refusal) => writeln!(out, "{refusal}"),
     }
 }
 
 fn show_account<W: Write>(book: &Book, out: &mut W) -> io::Result<()> {
-    let numbers = account::<Count, PathList>(book);
-    let (given, standing, withdrawn) = (numbers.given, numbers.standing, numbers.withdrawn);
+    let numbers = account::<Count>(book);
+    let Numbers {
+        given,
+        standing,
+        withdrawn,
+    } = numbers;
     writeln!(
         out,
         "given {given} standing {standing} withdrawn {withdrawn}"

@@ -1,5 +1,5 @@
 use crate::hex::read_hex;
-use anyhow::anyhow;
+use anyhow::{Context, anyhow};
 use place_set::PlaceSet;
 use rules::kind::Kind;
 use rules::part_number::PartNumber;
@@ -123,8 +123,8 @@ fn read_paths(heap: Global, words: &[&str]) -> anyhow::Result<PathScript> {
         return Err(anyhow!("a path list has 16 types"));
     };
     let mut numbers = [0u8; 16];
-    for place in 0..16usize {
-        numbers[place] = types[place].parse::<u8>()?;
+    for (number, word) in numbers.iter_mut().zip(types) {
+        *number = word.parse::<u8>()?;
     }
     let Some((count, rest)) = rest.split_first() else {
         return Err(anyhow!("the number of paths is missing"));
@@ -134,7 +134,7 @@ fn read_paths(heap: Global, words: &[&str]) -> anyhow::Result<PathScript> {
     };
     let mut paths = Vec::new(heap);
     for mask in masks {
-        paths.push(PlaceSet::from_mask(mask.parse::<u16>()?))?;
+        paths.push(PlaceSet::from(mask.parse::<u16>()?))?;
     }
     let layers = read_layers(heap, rest)?;
     Ok(PathScript {
@@ -159,8 +159,6 @@ fn read_layer(word: &str) -> anyhow::Result<Layer> {
     if word == "M" {
         return Ok(Layer::Mirror);
     }
-    match word.strip_prefix('L') {
-        Some(place) => Ok(Layer::Lockout(place.parse::<u8>()?)),
-        None => Err(anyhow!("no such layer")),
-    }
+    let place = word.strip_prefix('L').context("no such layer")?;
+    Ok(Layer::Lockout(place.parse::<u8>()?))
 }

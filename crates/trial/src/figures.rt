@@ -1,4 +1,4 @@
-use crate::answers::show_refusal;
+use crate::answers::show;
 use crate::command::Survey;
 use book::book::Book;
 use cells::table::CellTable;
@@ -13,17 +13,15 @@ use tally::loss::Loss;
 use tally::state_count::StateCount;
 
 // A figure as it stands on a bench before a survey, and as it is shown.
-pub trait Shown {
+pub trait Shown: Copy + PartialEq {
     // What stands at a place before the survey. No survey leaves it.
     fn junk(place: u16) -> Self;
-
-    fn is_junk(&self, place: u16) -> bool;
 
     fn show<W: Write>(&self, out: &mut W) -> io::Result<()>;
 }
 
 fn junk_number(place: u16) -> u32 {
-    4_000_000_000 + place as u32
+    4_000_000_000 + u32::from(place)
 }
 
 impl Shown for StateCount {
@@ -31,13 +29,8 @@ impl Shown for StateCount {
         StateCount::new(junk_number(place))
     }
 
-    fn is_junk(&self, place: u16) -> bool {
-        self.get() == junk_number(place)
-    }
-
     fn show<W: Write>(&self, out: &mut W) -> io::Result<()> {
-        let value = self.get();
-        write!(out, "{value}")
+        write!(out, "{self}")
     }
 }
 
@@ -46,51 +39,31 @@ impl Shown for Loss {
         Loss::new(junk_number(place))
     }
 
-    fn is_junk(&self, place: u16) -> bool {
-        self.get() == junk_number(place)
-    }
-
     fn show<W: Write>(&self, out: &mut W) -> io::Result<()> {
-        let value = self.get();
-        write!(out, "{value}")
+        write!(out, "{self}")
     }
-}
-
-fn junk_cell(place: u16, k: u16) -> u16 {
-    40_000u16.wrapping_add(place).wrapping_add(k)
 }
 
 impl Shown for CellTable {
     fn junk(place: u16) -> CellTable {
-        let mut cells = [0u16; 512];
-        for k in 0..512u16 {
-            cells[k as usize] = junk_cell(place, k);
+        let mut cells = [40_000u16.wrapping_add(place); 512];
+        for (k, cell) in (0u16..).zip(cells.iter_mut()) {
+            *cell = cell.wrapping_add(k);
         }
         CellTable::new(cells)
     }
 
-    fn is_junk(&self, place: u16) -> bool {
-        let cells = self.cells();
-        for k in 0..512u16 {
-            if cells[k as usize] != junk_cell(place, k) {
-                return false;
-            }
-        }
-        true
-    }
-
     // The cells that are not 0, as ABC:VALUE.
     fn show<W: Write>(&self, out: &mut W) -> io::Result<()> {
-        let mut any = false;
+        let mut separator = "";
         for (k, value) in self.cells().iter().enumerate() {
             if *value != 0 {
-                let separator = if any { "," } else { "" };
                 let (a, b, c) = (k % 8, k / 8 % 8, k / 64);
                 write!(out, "{separator}{a}{b}{c}:{value}")?;
-                any = true;
+                separator = ",";
             }
         }
-        if !any {
+        if separator.is_empty() {
             write!(out, "0")?;
         }
         Ok(())
@@ -99,7 +72,7 @@ impl Shown for CellTable {
 
 // What stands at the place, or `junk` if that is what stood there before.
 pub fn show_at<F: Shown, W: Write>(figure: &F, place: u16, out: &mut W) -> io::Result<()> {
-    if figure.is_junk(place) {
+    if *figure == F::junk(place) {
         write!(out, "junk")
     } else {
         figure.show(out)
@@ -107,14 +80,13 @@ pub fn show_at<F: Shown, W: Write>(figure: &F, place: u16, out: &mut W) -> io::R
 }
 
 // So many places of a bench, full of junk.
-fn junk_places<F: Shown + Drop>(heap: Global, count: u16) -> Result<Vec<Sums<F>>, AllocError> {
-    let mut places = Vec::new(heap);
-    for place in 0..count {
-        let working = F::junk(place);
-        let failing = F::junk(place);
-        places.push(Sums { working, failing })?;
-    }
-    Ok(places)
+fn junk_places<F: Shown>(heap: Global, count: u16) -> Result<Vec<Sums<F>>, AllocError> {
+    (0..count)
+        .map(|place| Sums {
+            working: F::junk(place),
+            failing: F::junk(place),
+        })
+        .collect(heap)
 }
 
 // Surveys a line on a bench full of junk, and shows the answer and the bench.
@@ -126,15 +98,12 @@ pub fn show_survey<T: Tally, W: Write>(
     out: &mut W,
 ) -> anyhow::Result<()>
 where
-    T::Figure: Shown + Drop,
+    T::Figure: Shown,
 {
     let mut places = junk_places::<T::Figure>(heap, asked.places)?;
     let mut bench = Bench::new(places.as_mut_slice());
-    match survey(book, asked.number, tally, &mut bench) {
-        Ok(place) => writeln!(out, "place {place}")?,
-        Err(refusal) => show_refusal(refusal, out)?,
-    }
-    show_bench(&bench, asked.places, out)?;
+    show("place", survey(book, asked.number, tally, &mut bench), out)?;
+    show_places(places.as_slice(), out)?;
     Ok(())
 }
 
@@ -150,13 +119,10 @@ pub fn show_row<W: Write>(
     let mut row = [junk_number(0); 7];
     match failure_row(book, asked.number, &mut bench, &mut row) {
         Ok(()) => write!(out, "row")?,
-        Err(refusal) => {
-            let number = refusal.number();
-            write!(out, "refused {number} row")?;
-        }
+        Err(refusal) => write!(out, "{refusal} row")?,
     }
     show_entries(&row, out)?;
-    show_bench(&bench, asked.places, out)?;
+    show_places(places.as_slice(), out)?;
     Ok(())
 }
 
@@ -171,19 +137,13 @@ fn show_entries<W: Write>(row: &[u32; 7], out: &mut W) -> io::Result<()> {
     writeln!(out)
 }
 
-fn show_bench<F: Shown + Copy, W: Write>(
-    bench: &Bench<F>,
-    places: u16,
-    out: &mut W,
-) -> io::Result<()> {
+fn show_places<F: Shown, W: Write>(places: &[Sums<F>], out: &mut W) -> io::Result<()> {
     write!(out, "bench")?;
-    for place in 0..places {
-        if let Some(sums) = bench.get(place as usize) {
-            write!(out, " ")?;
-            show_at(&sums.working, place, out)?;
-            write!(out, "/")?;
-            show_at(&sums.failing, place, out)?;
-        }
+    for (place, sums) in (0u16..).zip(places) {
+        write!(out, " ")?;
+        show_at(&sums.working, place, out)?;
+        write!(out, "/")?;
+        show_at(&sums.failing, place, out)?;
     }
     writeln!(out)
 }

@@ -1,23 +1,15 @@
-use crate::answers::show_refusal;
 use crate::command::{Layer, PathScript};
 use crate::figures::{Shown, show_at};
 use cells::table::CellTable;
 use count::{long_count, totals};
-use plan::Plan;
-use plan::lockout::{LockedPlace, Lockout};
-use plan::mirror::Mirror;
+use plan::lockout::LockedPlace;
 use plan::path_list::PathList;
+use plan::pile::Pile;
+use plan::{Plan, pile};
 use rules::refusal::Refusal;
 use std::alloc::Global;
 use std::io;
 use std::io::Write;
-
-// A layer that was not refused.
-#[derive(Clone, Copy)]
-enum LaidLayer {
-    Lockout(LockedPlace),
-    Mirror,
-}
 
 // Shows the counts of the pile over a path list, or why the list is refused.
 pub fn show_paths<W: Write>(heap: Global, script: PathScript, out: &mut W) -> anyhow::Result<()> {
@@ -38,74 +30,27 @@ pub fn show_plan<P: Plan + Drop, W: Write>(
 ) -> anyhow::Result<()> {
     match made {
         Ok(plan) => {
-            let laid = lay(heap, layers, out)?;
-            show_pile(plan, laid.as_slice(), out)?;
+            let layers = lay(heap, layers, out)?;
+            show_counts(&Pile { plan, layers }, out)?;
         }
-        Err(refusal) => show_refusal(refusal, out)?,
+        Err(refusal) => writeln!(out, "{refusal}")?,
     }
     Ok(())
 }
 
 // The layers that are not refused; shows the refusals of the others.
-fn lay<W: Write>(heap: Global, layers: &[Layer], out: &mut W) -> anyhow::Result<Vec<LaidLayer>> {
+fn lay<W: Write>(heap: Global, layers: &[Layer], out: &mut W) -> anyhow::Result<Vec<pile::Layer>> {
     let mut laid = Vec::new(heap);
     for layer in layers {
         match layer {
-            Layer::Mirror => laid.push(LaidLayer::Mirror)?,
+            Layer::Mirror => laid.push(pile::Layer::Mirror)?,
             Layer::Lockout(place) => match LockedPlace::new(*place) {
-                Ok(locked) => laid.push(LaidLayer::Lockout(locked))?,
-                Err(refusal) => show_refusal(refusal, out)?,
+                Ok(locked) => laid.push(pile::Layer::Lockout(locked))?,
+                Err(refusal) => writeln!(out, "{refusal}")?,
             },
         }
     }
     Ok(laid)
-}
-
-// Lays up to three layers over a plan, the first of them first, and shows the counts of the pile. Each
-// pile has a type of its own, so each layer is a step of its own.
-fn show_pile<P: Plan + Drop, W: Write>(
-    plan: P,
-    layers: &[LaidLayer],
-    out: &mut W,
-) -> io::Result<()> {
-    match layers {
-        [LaidLayer::Mirror, rest @ ..] => show_second(Mirror { plan }, rest, out),
-        [LaidLayer::Lockout(locked), rest @ ..] => {
-            let locked = *locked;
-            show_second(Lockout { plan, locked }, rest, out)
-        }
-        [] => show_counts(&plan, out),
-    }
-}
-
-fn show_second<P: Plan + Drop, W: Write>(
-    plan: P,
-    layers: &[LaidLayer],
-    out: &mut W,
-) -> io::Result<()> {
-    match layers {
-        [LaidLayer::Mirror, rest @ ..] => show_third(Mirror { plan }, rest, out),
-        [LaidLayer::Lockout(locked), rest @ ..] => {
-            let locked = *locked;
-            show_third(Lockout { plan, locked }, rest, out)
-        }
-        [] => show_counts(&plan, out),
-    }
-}
-
-fn show_third<P: Plan + Drop, W: Write>(
-    plan: P,
-    layers: &[LaidLayer],
-    out: &mut W,
-) -> io::Result<()> {
-    match layers {
-        [LaidLayer::Mirror, ..] => show_counts(&Mirror { plan }, out),
-        [LaidLayer::Lockout(locked), ..] => {
-            let locked = *locked;
-            show_counts(&Lockout { plan, locked }, out)
-        }
-        [] => show_counts(&plan, out),
-    }
 }
 
 // The long count and the totals of a plan, each into a table that holds junk.
@@ -126,10 +71,7 @@ fn show_table<W: Write>(
 ) -> io::Result<()> {
     match answer {
         Ok(()) => write!(out, "{name} counted ")?,
-        Err(refusal) => {
-            let number = refusal.number();
-            write!(out, "{name} refused {number} ")?;
-        }
+        Err(refusal) => write!(out, "{name} {refusal} ")?,
     }
     show_at(table, 0, out)?;
     writeln!(out)
