@@ -40,6 +40,6 @@ echo "7 switches on which step to run"
 count "types by Fn, dyn or a function pointer" '.*(\bFn(Once|Mut)?\(|dyn |: fn\()'
 count "matches on the layers of a pile" '.*match layers? \{'
 echo "8 proofs"
-printf '%4d  answers\n' "$(find crates -path '*/proofs/*' -name Answers.antt | wc -l)"
-printf '%4d  invariants\n' "$(find crates -path '*/proofs/*' -name Invariants.antt | wc -l)"
-printf '%4d  lines of proofs/\n' "$(find crates -path '*/proofs/*' -name '*.antt' -print0 | xargs -0 cat | wc -l)"
+printf '%4d  answers\n' "$(find crates -path '*/proofs/*' ! -path '*/out/*' -name Answers.antt | wc -l)"
+printf '%4d  invariants\n' "$(find crates -path '*/proofs/*' ! -path '*/out/*' -name Invariants.antt | wc -l)"
+printf '%4d  lines of proofs/\n' "$(find crates -path '*/proofs/*' ! -path '*/out/*' -name '*.antt' -print0 | xargs -0 cat | wc -l)"

@@ -9,12 +9,12 @@ root=$(cd "$here/../.." && pwd -P)
 work=$(mktemp -d) || exit 2
 trap 'rm -rf "$work"' EXIT
 mkdir -p "$work/crates/misuse/src" || exit 2
-for crate in rules book sheet; do
+for crate in rules book text sheet; do
     mkdir "$work/crates/$crate" || exit 2
     cp -R "$root/crates/$crate/src" "$root/crates/$crate/specs" "$root/crates/$crate/proofs" "$work/crates/$crate/" || exit 2
     grep "^$crate:" "$root/crates.txt" >>"$work/crates.txt" || exit 2
 done
-echo 'misuse: rules book sheet' >>"$work/crates.txt"
+echo 'misuse: rules book text sheet' >>"$work/crates.txt"
 bad=0
 for case in control apply_unchecked apply_twice forge copy let_go; do
     cp "$here/$case.txt" "$work/crates/misuse/src/lib.rt" || exit 2
