@@ -1,5 +1,5 @@
 -- Paths, place by place and path by path.
-use Rattle.std.specs.Prelude.{◌≡◌, ℕ, zero, suc, ◌<◌, Bool, true, false, not, ◌||◌, List, [], ◌∷◌, length, take, is_some, Some, None, Option, Ok, Err, Result, IfOk, IfErr, ◌≢◌, slice_index, slice_index_or, refl}
+use Rattle.std.specs.Prelude.{◌≡◌, ℕ, zero, suc, ◌<◌, Bool, true, false, not, ◌&&◌, ◌||◌, List, [], ◌∷◌, length, take, is_some, Some, None, Option, Ok, Err, Result, IfOk, IfErr, ◌≢◌, slice_index, slice_index_or, refl}
 use Rattle.std.specs.Array.{AllZipBelow}
 use Rattle.std.specs.Cmp.{both_ways}
 use Rattle.std.specs.Fn.{Called}
@@ -14,7 +14,7 @@ use Rattle.rules.specs.declared.refusal.Refusal.{Refusal}
 use Rattle.rules.specs.Rules.{Allowed, Refused, Decided}
 use Rattle.rules.specs.Trees.{State}
 use Rattle.place_set.specs.declared.PlaceSet.{PlaceSet}
-use Rattle.place_set.specs.Sets.{members, Within}
+use Rattle.place_set.specs.Sets.{members, Within, less}
 use Rattle.plan.specs.Plans.{Agree, LawfulPlan}
 use Rattle.plan.specs.Paths.{PlaceTyped, types_of, type_at, all_below, covers, plan_of_paths, all_filled, type_rules, path_rules, each_path}
 use Rattle.plan.specs.Deciding.{refused_first, refused_after}
@@ -36,8 +36,22 @@ all_at p (suc n) k h lt =
 pub all_fails : (p : ℕ → Bool) (n k : ℕ) → k < n → p k ≡ false → all_below n p ≡ false
 all_fails p n k lt off = ⊎_elim (λ on. absurd (true≢false (sym (all_at p n k on lt) ∙ off))) (λ e. e) (cases_Bool (all_below n p))
 
-pub covers_fails : (path : PlaceSet) (s : State) (k : ℕ) → k < 16 → members path k ≡ true → s k ≡ false → covers s path ≡ false
-covers_fails path s k lt on off = all_fails (λ i. not (members path i) || s i) 16 k lt (ap₂ (λ x y. not x || y) on off)
+left_none : (x y : Bool) → (x && not y) ≡ false → (not x || y) ≡ true
+left_none true true e = refl
+left_none true false e = absurd (true≢false e)
+left_none false y e = refl
+
+left_one : (x y : Bool) → (x && not y) ≡ true → (not x || y) ≡ false
+left_one true true e = absurd (false≢true e)
+left_one true false e = refl
+left_one false y e = absurd (false≢true e)
+
+-- a path is covered if no place of it is left out of s, and not if one is
+pub covers_from : (path : PlaceSet) (s : State) → ((k : ℕ) → k < 16 → less (members path) s k ≡ false) → covers s path ≡ true
+covers_from path s h = all_from (λ i. not (members path i) || s i) 16 (λ k lt. left_none (members path k) (s k) (h k lt))
+
+pub covers_fails : (path : PlaceSet) (s : State) (k : ℕ) → k < 16 → less (members path) s k ≡ true → covers s path ≡ false
+covers_fails path s k lt e = all_fails (λ i. not (members path i) || s i) 16 k lt (left_one (members path k) (s k) e)
 
 -- a covered place that the path names
 named : (x y : Bool) → (not x || y) ≡ true → x ≡ true → y ≡ true
