@@ -29,7 +29,8 @@ use Rattle.count.proofs.Steps.{step_up}
 use Rattle.agreement.proofs.Agreement.{ways_agree_lem}
 use Rattle.survey.specs.declared.bench.Sums.{Sums}
 use Rattle.survey.specs.Surveys.{sums_of, all_sums, left_on}
-use Rattle.survey.proofs.Places.{stands_at, sum_at}
+use Rattle.reckoning.proofs.Places.{stands_at}
+use Rattle.survey.proofs.Places.{sum_at}
 use Rattle.row.specs.Rows.{FailureRow, Mixed}
 use Rattle.survival.specs.Ruled.{share_rules, SurvivalOf}
 use Rattle.sheet.specs.declared.fault.Fault.{Fault}

@@ -83,7 +83,7 @@ pub fn line_plan<'a, T: Tally>(book: &'a Book, number: PartNumber) -> Result<Lin
 pub fn lockout<T: Tally>(place: u8) -> Result<LockedPlace, Refusal>
     ensures { (b : AnyBook) → GoesOn (meanings T.Tally.meaning) (reading (locking place result)) b b }
 {
-    LockedPlace::new(place)
+    LockedPlace::try_from(place)
 }
 
 pub fn long_count<T: Tally, P: Plan>(plan: &P, table: &mut CellTable) -> Result<(), Refusal>

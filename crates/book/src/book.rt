@@ -80,8 +80,8 @@ impl Book {
         self.last + 1
     }
 
-    // The part number that a refusal of the change is about: of a joining the first of the two that
-    // may not be used, or the second. An issue names none, for which a fault has the number 0.
+    // The part number that a refusal of the change with 15 to 18 is about: of a joining of a and b
+    // it is a if a may not be used, and otherwise b. An issue names no line, and has the number 0.
     pub fn blamed(&self, change: Change) -> u32
         ensures { Tells self.now (λ h. result ≡ blamed h change) }
     {

@@ -7,8 +7,8 @@ use rules::item_type::ItemType;
 use rules::line::{Line, Part};
 use rules::part_number::PartNumber;
 
-// The standing lines, in rising number. A line's place says nothing of its number: the places of
-// withdrawn lines are used again.
+// The standing lines. A book keeps them in rising number; that is no invariant of the table, so
+// `find` and `release` require it. Where a line is taken out, those after it move up by a place.
 #[derive(Drop)]
 pub struct Table {
     pub lines: Vec<Line>,

@@ -27,5 +27,5 @@ filled_from g f v acts (suc n) i ys calls k lt =
     ap (λ j. get_or ys j 0) (sym e) ∙ filled_from g f v acts n (i + 1) ys rest (k - 1) (omega arith) ∙ ap v e)
     (cases_eq k 0)
 
-pub filled : {F : Type 0} {g : Mut F (ℕ × Unit {0}) ℕ} {f : F} {n : ℕ} {ys : List ℕ} (v : ℕ → ℕ) → IsFromFnResult g f ys n → ActsAs g f v → (k : ℕ) → k < n → get_or ys k 0 ≡ v k
-filled {g = g} {f = f} {n = n} {ys = ys} v result acts k lt = rw zero-add at (filled_from g f v acts n 0 ys result.each k lt)
+pub get_or-from_fn : {F : Type 0} {g : Mut F (ℕ × Unit {0}) ℕ} {f : F} {n : ℕ} {ys : List ℕ} (v : ℕ → ℕ) → IsFromFnResult g f ys n → ActsAs g f v → (k : ℕ) → k < n → get_or ys k 0 ≡ v k
+get_or-from_fn {g = g} {f = f} {n = n} {ys = ys} v result acts k lt = rw zero-add at (filled_from g f v acts n 0 ys result.each k lt)

@@ -8,7 +8,7 @@ use denote.Struct.Props.{≡_prop}
 use Rattle.std.proofs.lemmas.List.FromFn.{fill_by_all}
 use Rattle.cells.specs.declared.table.CellTable.{CellTable}
 use Rattle.cells.specs.Cells.{cell}
-use Rattle.cells.specs.Tables.{tabulated, cells_of, table_of, at, getD_tabulated}
+use Rattle.cells.specs.Tables.{tabulated, cells_of, table_of, at, get_or-tabulated}
 
 -- equality of tables from equality of their lists
 pub same_table : (x y : CellTable) → x.cells ≡ y.cells → x ≡ y
@@ -37,7 +37,7 @@ place_of_index p = omega arith
 pub cell_of : (f : ℕ → ℕ → ℕ → ℕ) (a b c : ℕ) → a < 8 → b < 8 → c < 8 → cell (cells_of f) a b c ≡ f a b c % 65536
 cell_of f a b c al bl cl =
     let index = index_of_place a b c al bl cl in
-    getD_tabulated _ 512 (a + 8 * b + 64 * c) (omega arith) ∙ rw (index.0, index.1, index.2) refl
+    get_or-tabulated _ 512 (a + 8 * b + 64 * c) (omega arith) ∙ rw (index.0, index.1, index.2) refl
 
 -- by place
 pub filled : (f : ℕ → ℕ) (n : ℕ) (xs : List ℕ) → length xs ≡ n → ((p : ℕ) → p < n → get_or xs p 0 ≡ f p) → xs ≡ tabulated f n

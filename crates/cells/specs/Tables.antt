@@ -20,13 +20,13 @@ pub length_tabulated : (f : ℕ → ℕ) (n : ℕ) → length (tabulated f n) �
 unfolding tabulated
 length_tabulated f n = length-map-range_with_len f 0 n
 
-pub getD_tabulated : (f : ℕ → ℕ) (n i : ℕ) → i < n → slice_index (tabulated f n) i ≡ f i
+pub get_or-tabulated : (f : ℕ → ℕ) (n i : ℕ) → i < n → slice_index (tabulated f n) i ≡ f i
 unfolding tabulated
-getD_tabulated f n i h = get_or-map-range_with_len f 0 n i i 0 h (omega arith)
+get_or-tabulated f n i h = get_or-map-range_with_len f 0 n i i 0 h (omega arith)
 
 pub cells_small : (f : ℕ → ℕ → ℕ → ℕ) (p : ℕ) → slice_index (cells_of f) p < 65536
 cells_small f p = elim (cases_lt p 512) [
-  | inl h ↦ rw (getD_tabulated _ 512 p h) (mod-lt (f (p % 8) (p / 8 % 8) (p / 64)) (lit< tt))
+  | inl h ↦ rw (get_or-tabulated _ 512 p h) (mod-lt (f (p % 8) (p / 8 % 8) (p / 64)) (lit< tt))
   | inr h ↦ rw (get_or_past (cells_of f) p 0 (rw (length_tabulated _ 512) h)) (lit< tt)
 ]
 

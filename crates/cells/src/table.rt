@@ -1,5 +1,7 @@
 ghost use Rattle.std.specs.Prelude.{◌≡◌, ℕ, ◌<◌, length, slice_index};
 
+use std::fmt;
+
 // A table of 512 numbers of 16 bits. The cell (a, b, c), each index from 0 to 7, stands at the
 // place a + 8 b + 64 c; a, b and c are numbers of items, or places, of types 1, 2 and 3 that work.
 #[derive(Clone, Copy, PartialEq, Eq)]
@@ -29,6 +31,24 @@ impl CellTable {
         ensures { result ≡ answered_cell self.now.cells a b c }
     {
         (a < 8 && b < 8 && c < 8).then(|| self.cells[a + 8 * b + 64 * c])
+    }
+}
+
+// The cells that are not 0, as ABC:VALUE with commas between, or 0 where there are none.
+impl fmt::Display for CellTable {
+    fn fmt<W: fmt::Write>(&self, f: &mut fmt::Formatter<W>) -> fmt::Result {
+        let mut separator = "";
+        for (k, value) in self.cells.iter().enumerate() {
+            if *value != 0 {
+                let (a, b, c) = (k % 8, k / 8 % 8, k / 64);
+                write!(f, "{separator}{a}{b}{c}:{value}")?;
+                separator = ",";
+            }
+        }
+        if separator.is_empty() {
+            f.write_str("0")?;
+        }
+        Ok(())
     }
 }
 

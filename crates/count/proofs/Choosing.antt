@@ -7,11 +7,13 @@ use Rattle.rules.specs.declared.item_type.ItemType.{ItemType}
 use Rattle.rules.specs.declared.item_type.ItemType.TheVariants.{One, Two, Three}
 use Rattle.rules.specs.Trees.{State}
 use Rattle.sums.specs.States.{all_failed, put, states, keep, range, count}
+use Rattle.sums.specs.Members.{Distinct}
+use Rattle.sums.proofs.States.{put_same}
 use Rattle.plan.specs.Plans.{Structure}
 use Rattle.sums.specs.ByType.{is_type}
 use Rattle.count.specs.Counts.{is_of_type, places, places_of, in_cell, total_states, working_states}
 use Rattle.count.specs.Laws.{choose, choices}
-use Rattle.count.proofs.Over.{over, Distinct, put_same, count_states, over_agree, over_zero}
+use Rattle.count.proofs.Over.{over, count_states, over_agree, over_zero}
 use Rattle.count.proofs.Lists.{places_distinct}
 
 -- one for (x, y, z) at (a, b, c)

@@ -3,17 +3,15 @@ use Rattle.std.proofs.Common.{◌≡◌, ℕ, zero, suc, ◌+◌, ◌<◌, ◌�
 use mathlib.Core.Path.{fun_ext}
 use mathlib.Core.List.Memᴰ
 use mathlib.Core.List.{Memᴰ}
-use Rattle.std.proofs.lemmas.Bool.{false≢true, cases_Bool, and_parts, and_right, cases_eq, cases_lt, lt-ltb, le-ltb, eq-eqb, ne_eqb}
+use Rattle.std.proofs.lemmas.Bool.{false≢true, and_parts, and_right, cases_eq, cases_lt, lt-ltb, le-ltb, eq-eqb, ne_eqb}
 use Rattle.rules.specs.declared.item_type.ItemType.{ItemType}
-use Rattle.rules.specs.declared.item_type.ItemType.TheVariants.{One, Two, Three}
-use Rattle.rules.specs.Types.{type_number}
 use Rattle.rules.specs.Trees.{State}
 use Rattle.sums.specs.States.{keep, range, count}
+use Rattle.sums.specs.Members.{Distinct}
 use Rattle.plan.specs.Plans.{Structure}
 use Rattle.place_set.specs.Sets.{size, both, adding}
 use Rattle.sums.specs.ByType.{is_type}
 use Rattle.count.specs.Counts.{is_of_type, places, places_of, working_in}
-use Rattle.count.proofs.Over.{Distinct}
 
 range_above : (k n j : ℕ) → Memᴰ j (range k n) → k ≤ j
 range_above k zero j m = absurd (Memᴰ.not-nil m)
@@ -57,31 +55,6 @@ count_kept r q (x ∷ xs) h = at (r x) refl (count_kept r q xs h)
     at : (b : Bool) → r x ≡ b → count q (keep r xs) ≡ count q xs → count q (cond b (x ∷ keep r xs) (keep r xs)) ≡ cond (q x) 1 0 + count q xs
     at true e ih = ap (λ n. cond (q x) 1 0 + n) ih
     at false e ih = ih ∙ sym (off (q x) (λ on. false≢true (sym e ∙ h x on)))
-
--- a place has one type
-pub type_is : (t : ItemType) (o : Option ItemType) → is_type t o ≡ true → o ≡ Some t
-type_is t None on = absurd (false≢true on)
-type_is One (Some One) on = refl
-type_is One (Some Two) on = absurd (false≢true on)
-type_is One (Some Three) on = absurd (false≢true on)
-type_is Two (Some One) on = absurd (false≢true on)
-type_is Two (Some Two) on = refl
-type_is Two (Some Three) on = absurd (false≢true on)
-type_is Three (Some One) on = absurd (false≢true on)
-type_is Three (Some Two) on = absurd (false≢true on)
-type_is Three (Some Three) on = refl
-
-pub is_own_type : (t : ItemType) (o : Option ItemType) → o ≡ Some t → is_type t o ≡ true
-is_own_type t o e = ap (is_type t) e ∙ eq-eqb (type_number t) (type_number t) refl
-
-pub is_other_type : (t : ItemType) (o : Option ItemType) → (o ≡ Some t → ⊥) → is_type t o ≡ false
-is_other_type t o ne = ⊎_elim (λ on. absurd (ne (type_is t o on))) (λ off. off) (cases_Bool (is_type t o))
-
--- what holds for each of the three types
-pub each_type : (P : ItemType → Type 0) → P One → P Two → P Three → (t : ItemType) → P t
-each_type P one two three One = one
-each_type P one two three Two = two
-each_type P one two three Three = three
 
 -- the sizes of sets of places
 some_type : (t : ItemType) (o : Option ItemType) → is_type t o ≡ true → is_some o ≡ true

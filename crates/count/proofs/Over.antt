@@ -2,25 +2,14 @@
 use Rattle.std.proofs.Common.{◌≡◌, ℕ, ◌+◌, Bool, true, false, cond, eqb, List, [], ◌∷◌, ◌++◌, sym, refl, ap, ◌∙◌, ap₂, add-zero, add_assoc, zero-add, arith}
 use mathlib.Core.Path.{fun_ext}
 use mathlib.Core.List.{Memᴰ}
-use Rattle.std.proofs.lemmas.Bool.{eq-eqb, ne_eqb, eqb-true}
 use Rattle.rules.specs.Trees.{State}
 use Rattle.sums.specs.States.{put, states, count}
+use Rattle.sums.proofs.States.{put_other}
 
 -- f at each state of the places, added up; all else is as in s
 abbrev pub over : List ℕ → State → (State → ℕ) → ℕ
 over [] s f = f s
 over (i ∷ is) s f = over is (put i true s) f + over is (put i false s) f
-
--- no place twice
-abbrev pub Distinct : List ℕ → Type 0
-Distinct [] = Unit {0}
-Distinct (i ∷ is) = (Memᴰ i is → ⊥) × Distinct is
-
-pub put_same : (i : ℕ) (v : Bool) (s : State) → put i v s i ≡ v
-put_same i v s = ap (λ b. cond b v (s i)) (eq-eqb i i refl)
-
-pub put_other : (i j : ℕ) → (i ≡ j → ⊥) → (v : Bool) (s : State) → put i v s j ≡ s j
-put_other i j ne v s = ap (λ b. cond b v (s j)) (ne_eqb i j ne)
 
 pub put_put : (i : ℕ) (v w : Bool) (s : State) → put i v (put i w s) ≡ put i v s
 put_put i v w s = fun_ext (λ j. at (eqb i j) (s j))
@@ -28,15 +17,6 @@ put_put i v w s = fun_ext (λ j. at (eqb i j) (s j))
     at : (x o : Bool) → cond x v (cond x w o) ≡ cond x v o
     at true o = refl
     at false o = refl
-
-pub put_swap : (i j : ℕ) → (i ≡ j → ⊥) → (v w : Bool) (s : State) → put i v (put j w s) ≡ put j w (put i v s)
-put_swap i j ne v w s = fun_ext (λ k. at k (eqb i k) (eqb j k) refl refl)
-  where
-    at : (k : ℕ) (x y : Bool) → eqb i k ≡ x → eqb j k ≡ y → cond x v (cond y w (s k)) ≡ cond y w (cond x v (s k))
-    at k true true e f = absurd (ne (eqb-true i k e ∙ sym (eqb-true j k f)))
-    at k true false e f = refl
-    at k false true e f = refl
-    at k false false e f = refl
 
 pub count_append : {A : Type 0} (q : A → Bool) (xs ys : List A) → count q (xs ++ ys) ≡ count q xs + count q ys
 count_append q [] ys = sym (zero-add _)

@@ -8,12 +8,15 @@ use Rattle.rules.specs.declared.item_type.ItemType.{ItemType}
 use Rattle.rules.specs.declared.item_type.ItemType.TheVariants.{One, Two, Three}
 use Rattle.rules.specs.Trees.{State}
 use Rattle.sums.specs.States.{all_failed, put, states, count}
+use Rattle.sums.specs.Members.{Distinct}
+use Rattle.sums.proofs.States.{put_same, put_other, put_swap}
+use Rattle.sums.proofs.Types.{type_is}
 use Rattle.plan.specs.Plans.{Structure, LawfulPlan}
 use Rattle.sums.specs.ByType.{is_type}
 use Rattle.count.specs.Counts.{is_of_type, places, working_in, working_states}
 use Rattle.count.specs.Laws.{StepUp}
-use Rattle.count.proofs.Over.{over, Distinct, put_same, put_other, put_put, put_swap, count_states, over_agree, over_zero}
-use Rattle.count.proofs.Lists.{places_distinct, type_is}
+use Rattle.count.proofs.Over.{over, put_put, count_states, over_agree, over_zero}
+use Rattle.count.proofs.Lists.{places_distinct}
 
 -- g is a row of sums over n places that steps up
 abbrev Up : ℕ → (ℕ → ℕ) → Type 0

@@ -24,8 +24,6 @@ pub fn count_choices(numbers: ByType<u32>) -> [u16; 512]
     requires { (t : ItemType) → of_type numbers t ≤ 7 }
     ensures { Holds result (λ a b c. choose numbers.one a * choose numbers.two b * choose numbers.three c) }
 {
-    let ones = binomials(numbers.one);
-    let twos = binomials(numbers.two);
-    let threes = binomials(numbers.three);
-    array::from_fn(|k| ones[k % 8] * twos[k / 8 % 8] * threes[k / 64])
+    let ways = numbers.map(binomials);
+    array::from_fn(|k| ways.one[k % 8] * ways.two[k / 8 % 8] * ways.three[k / 64])
 }

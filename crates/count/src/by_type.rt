@@ -10,7 +10,8 @@ use rules::by_type::ByType;
 use rules::item_type::ItemType;
 use rules::refusal::Refusal;
 
-// The places of a plan that has at most 7 places of each type.
+// The places of a plan that has at most 7 places of each type. Each call is written out: it takes the
+// type itself, and no value by type that could be mapped.
 pub fn places_by_type<P: Plan>(plan: &P) -> Result<ByType<PlaceSet>, Refusal>
     ensures { Decided (count_rules (P.Plan.meaning plan.now)) (λ places. Sorted (P.Plan.meaning plan.now) places) result }
 {

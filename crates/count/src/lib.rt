@@ -10,8 +10,8 @@ ghost use Rattle.count.specs.Laws.{CountRuled, TotalsRuled};
 use binomials::count_choices;
 use by_type::places_by_type;
 use cells::table::CellTable;
+use place_set::PlaceSet;
 use plan::Plan;
-use rules::by_type::ByType;
 use rules::refusal::Refusal;
 use states::count_working_states;
 
@@ -32,11 +32,7 @@ pub fn totals<P: Plan>(plan: &P, table: &mut CellTable) -> Result<(), Refusal>
     ensures { TotalsRuled (P.Plan.meaning plan.now) table.old result table.new }
 {
     let places = places_by_type(plan)?;
-    let numbers = ByType {
-        one: places.one.len(),
-        two: places.two.len(),
-        three: places.three.len(),
-    };
+    let numbers = places.map(PlaceSet::len);
     *table = CellTable::new(count_choices(numbers));
     Ok(())
 }
@@ -44,7 +40,6 @@ pub fn totals<P: Plan>(plan: &P, table: &mut CellTable) -> Result<(), Refusal>
 #[cfg(test)]
 mod tests {
     use super::*;
-    use place_set::PlaceSet;
     use plan::lockout::{LockedPlace, Lockout};
     use plan::mirror::Mirror;
     use plan::path_list::PathList;
@@ -73,7 +68,7 @@ mod tests {
         long_count(&mirror, &mut table)?;
         check_cells(&rt, &table, [0, 0, 2, 1]);
         let Mirror { plan: list } = mirror;
-        let locked = LockedPlace::new(2)?;
+        let locked = LockedPlace::try_from(2)?;
         let lockout = Lockout { plan: list, locked };
         long_count(&lockout, &mut table)?;
         check_cells(&rt, &table, [1, 0, 0, 1]);

@@ -19,6 +19,7 @@ use Rattle.rules.specs.Ruled.{naming, Lawful}
 use Rattle.rules.specs.Trees.{State, Tree, item, block, works, tree_of}
 use Rattle.rules.proofs.Sound.{sound}
 use Rattle.rules.proofs.Tables.{line}
+use Rattle.rules.proofs.Options.{not_none_some}
 use Rattle.sums.specs.Order.{placed}
 use Rattle.sums.specs.Places.{rising_in}
 use Rattle.sums.specs.States.{all_failed, put}
@@ -29,7 +30,6 @@ use Rattle.sums.proofs.Numbers.{numbers_semiring}
 use Rattle.sums.proofs.Places.{places_stand_lem}
 use Rattle.sums.proofs.States.{put_same, put_other}
 use Rattle.plan.specs.LinePlans.{plan_of_line}
-use Rattle.survey.proofs.Folds.{named_stands}
 use Rattle.survey.proofs.Places.{answer_stands}
 use Rattle.line_plan.specs.declared.item_list.TypedItem.{TypedItem}
 use Rattle.line_plan.specs.Items.{state_of}
@@ -79,7 +79,7 @@ module _ (h : History) (l : Lawful h) where
 
     -- the answer of a question for the test, with false for a line that does not stand
     pub unwrap_stands : (n : ℕ) (r : Result Bool Refusal) → Decided (naming h n) (λ v. v ≡ test (tree_of h n)) r → result_unwrap_or r false ≡ stands_and h n test
-    unwrap_stands n (Ok v) d = d.1 ∙ sym (stands_tree n (named_stands (standing h n) d.0.1.0))
+    unwrap_stands n (Ok v) d = d.1 ∙ sym (stands_tree n (not_none_some (standing h n) d.0.1.0))
     unwrap_stands n (Err e) w = sym (stands_none n (none_refused n e w))
 
   module _ (s : State) where

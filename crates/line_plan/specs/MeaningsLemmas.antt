@@ -1,10 +1,10 @@
 -- The laws of plans, for every value of the type of a line's plan.
-use Rattle.std.proofs.Common.{◌≡◌, ℕ, zero, suc, ◌<◌, ◌≤◌, Bool, true, false, cond, ◌&&◌, eqb, List, [], ◌∷◌, length, is_some, Some, None, vec_items, Option, sym, refl, ap, ◌∙◌, ⊎_elim, arith}
+use Rattle.std.proofs.Common.{◌≡◌, ℕ, zero, suc, ◌<◌, ◌≤◌, Bool, true, false, cond, ◌&&◌, eqb, List, [], ◌∷◌, length, is_some, vec_items, sym, refl, ap, ◌∙◌, ⊎_elim, arith}
 use mathlib.Core.Path.{fun_ext}
 use Rattle.std.specs.Option.{option_map}
 use Rattle.std.proofs.lemmas.List.{length-map, length-take-le}
 use Rattle.std.proofs.lemmas.Option.{slice_get-get_or, slice_get_past}
-use Rattle.std.proofs.lemmas.Bool.{true≢false, both_ways, cases_Bool, eqb-true, eqb-false, and_parts, and_from, and_left, or_cases, or_left, or_right}
+use Rattle.std.proofs.lemmas.Bool.{both_ways, cases_Bool, eqb-true, eqb-false, and_parts, and_from, and_left, or_cases, or_left, or_right}
 use Rattle.rules.specs.declared.item_type.ItemType.TheVariants.{One}
 use Rattle.rules.specs.declared.kind.Kind.{Kind}
 use Rattle.rules.specs.declared.kind.Kind.TheVariants.{Series, Parallel}
@@ -14,6 +14,7 @@ use Rattle.rules.specs.declared.line.Part.TheVariants.{Item, Block}
 use Rattle.rules.specs.Kinds.{block_works}
 use Rattle.rules.specs.History.{has}
 use Rattle.rules.specs.Trees.{State}
+use Rattle.rules.proofs.Options.{some_not_none}
 use Rattle.sums.specs.Order.{place_of}
 use Rattle.sums.specs.States.{all_failed, put}
 use Rattle.place_set.specs.Sets.{Within}
@@ -22,10 +23,6 @@ use Rattle.line_plan.specs.declared.LinePlan.{LinePlan}
 use Rattle.line_plan.specs.declared.item_list.TypedItem.{TypedItem}
 use Rattle.line_plan.specs.Items.{listed, numbers, types_of, state_of}
 use Rattle.line_plan.specs.Meanings.{part_works, lines_work, plan_over, plan_meant}
-
--- what is something is not nothing
-some_not_none : {X : Type 0} (o : Option X) (x : X) → o ≡ Some x → o ≡ None → ⊥
-some_not_none o x e f = true≢false (ap is_some (sym e ∙ f))
 
 -- a number of a list has a place in it
 pub place_low : (ns : List ℕ) (n : ℕ) → has ns n ≡ true → place_of ns n < length ns
@@ -75,8 +72,8 @@ state_agrees is s t same = fun_ext (λ n. ⊎_elim (in_list n) (λ off. and_left
     in_list : (n : ℕ) → has (numbers is) n ≡ true → state_of is s n ≡ state_of is t n
     in_list n on =
         let p = place_of (numbers is) n in
-        ap (λ x. has (numbers is) n && x) (same p (some_not_none (types_of is p) _
-        (ap (option_map (λ (i : TypedItem). i.item_type)) (slice_get-get_or is p no_item (omega (arith, place_low (numbers is) n on, length-map is (λ (i : TypedItem). i.number.value)))))))
+        ap (λ x. has (numbers is) n && x) (same p (some_not_none (types_of is p)
+        (ap is_some (ap (option_map (λ (i : TypedItem). i.item_type)) (slice_get-get_or is p no_item (omega (arith, place_low (numbers is) n on, length-map is (λ (i : TypedItem). i.number.value))))))))
 
 plan_lawful : (lines : List Line) (n : ℕ) (is : List TypedItem) → length is ≤ 16 → LawfulPlan (plan_over lines n is)
 plan_lawful lines n is few = record {

@@ -19,18 +19,18 @@ use survey::beneath::fold_beneath;
 pub fn line_works(book: &Book, number: PartNumber, items: &ItemList, state: PlaceSet) -> bool
     ensures { Tells book.now (λ h. result ≡ stands_and h number.value (λ x. works x (state_of (listed items.now) (members state)))) }
 {
-    match book.question(number) {
-        Ok(line) => match line.part {
-            Part::Item(_) => items.works(number, state),
-            Part::Block(kind, a, b) => {
-                let first = line_works(book, a, items, state);
-                match kind {
-                    Kind::Series => first && line_works(book, b, items, state),
-                    Kind::Parallel => first || line_works(book, b, items, state),
-                }
+    let Ok(line) = book.question(number) else {
+        return false;
+    };
+    match line.part {
+        Part::Item(_) => items.works(number, state),
+        Part::Block(kind, a, b) => {
+            let first = line_works(book, a, items, state);
+            match kind {
+                Kind::Series => first && line_works(book, b, items, state),
+                Kind::Parallel => first || line_works(book, b, items, state),
             }
-        },
-        Err(_) => false,
+        }
     }
 }
 

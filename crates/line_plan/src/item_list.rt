@@ -6,7 +6,7 @@ use rules::item_type::ItemType;
 use rules::part_number::PartNumber;
 
 // An item by its number, and its type.
-#[derive(Clone, Copy)]
+#[derive(Clone, Copy, PartialEq, Eq, Debug)]
 pub struct TypedItem {
     pub number: PartNumber,
     pub item_type: ItemType,

@@ -33,7 +33,7 @@ impl<'a> LinePlan<'a> {
     pub fn new(book: &'a Book, number: PartNumber) -> Result<LinePlan<'a>, Refusal>
         ensures { Tells book.now (λ h. PlanRuled h number.value (plan_answer result)) }
     {
-        let _line = book.question(number)?;
+        book.question(number)?;
         let items = items_beneath(book, number);
         Ok(LinePlan {
             book,

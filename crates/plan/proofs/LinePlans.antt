@@ -13,7 +13,7 @@ use Rattle.sums.proofs.Forest.{trees_stand_lem, few_beneath}
 use Rattle.sums.proofs.Listed.{works_agree, works_more}
 use Rattle.sums.proofs.Members.{once_distinct}
 use Rattle.sums.proofs.Numbers.{numbers, numbers_semiring}
-use Rattle.sums.proofs.Order.{length_order, place_getD, getD_in}
+use Rattle.sums.proofs.Order.{length_order, get_or-place_of, get_or-in}
 use Rattle.sums.proofs.Places.{places_stand_lem}
 use Rattle.sums.proofs.Rising.{rising_distinct}
 use Rattle.plan.specs.Plans.{LawfulPlan}
@@ -43,7 +43,7 @@ module _ (h : History) (l : Lawful h) (n : ℕ) (on : is_some (standing h n) ≡
 
   -- the first places have them, and no other place has anything
   pub place_filled : (p : ℕ) → p < length (rising_in h n) → is_some ((plan_of_line h n).types p) ≡ true
-  place_filled p lt = typed (get_or (rising_in h n) p 0) (getD_in (rising_in h n) p lt)
+  place_filled p lt = typed (get_or (rising_in h n) p 0) (get_or-in (rising_in h n) p lt)
 
   pub place_empty : (p : ℕ) → length (rising_in h n) ≤ p → (plan_of_line h n).types p ≡ None
   place_empty p le = ap (type_in h) (get_or_past (rising_in h n) p 0 le) ∙ ap type_at (sound h l).at_zero
@@ -53,7 +53,7 @@ module _ (h : History) (l : Lawful h) (n : ℕ) (on : is_some (standing h n) ≡
     monotone = λ s t more. works_more (tree_of h n) (placed (rising_in h n) s) (placed (rising_in h n) t) (λ i. more (place_of (rising_in h n) i));
     empty = λ s t same. works_agree (tree_of h n) (placed (rising_in h n) s) (placed (rising_in h n) t)
         (λ i m. same (place_of (rising_in h n) i) (λ none. both_ways (is_some (type_in h i))
-        (sym (ap (λ j. is_some (type_in h j)) (place_getD (rising_in h n) i ((rising_alike i).1 m))) ∙ ap is_some none)
+        (sym (ap (λ j. is_some (type_in h j)) (get_or-place_of (rising_in h n) i ((rising_alike i).1 m))) ∙ ap is_some none)
         (typed i ((rising_alike i).1 m))));
     above = λ p le. place_empty p (omega (arith, few_rising));
   }

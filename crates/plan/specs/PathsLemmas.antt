@@ -1,5 +1,5 @@
 -- Paths, place by place and path by path.
-use Rattle.std.specs.Prelude.{◌≡◌, ℕ, zero, suc, ◌<◌, Bool, true, false, not, ◌&&◌, ◌||◌, List, [], ◌∷◌, length, take, is_some, Some, None, Option, Ok, Err, Result, IfOk, IfErr, ◌≢◌, slice_index, slice_index_or, refl}
+use Rattle.std.specs.Prelude.{◌≡◌, ℕ, zero, suc, ◌<◌, Bool, true, false, not, ◌&&◌, ◌||◌, List, [], ◌∷◌, length, take, is_some, None, Option, Ok, Err, Result, IfOk, IfErr, slice_index, slice_index_or, refl}
 use Rattle.std.specs.Array.{AllZipBelow}
 use Rattle.std.specs.Cmp.{both_ways}
 use Rattle.std.specs.Fn.{Called}
@@ -13,6 +13,7 @@ use Rattle.rules.specs.declared.item_type.ItemType.{ItemType}
 use Rattle.rules.specs.declared.refusal.Refusal.{Refusal}
 use Rattle.rules.specs.Rules.{Allowed, Refused, Decided}
 use Rattle.rules.specs.Trees.{State}
+use Rattle.rules.proofs.Options.{some_not_none, not_none_some}
 use Rattle.place_set.specs.declared.PlaceSet.{PlaceSet}
 use Rattle.place_set.specs.Sets.{members, Within, less}
 use Rattle.plan.specs.Plans.{Agree, LawfulPlan}
@@ -77,14 +78,11 @@ some_monotone (path ∷ paths) s t w h =
     (λ e. or_right (covers t path) (list_any (covers t) paths) (some_monotone paths s t w e))
     (or_cases (covers s path) (list_any (covers s) paths) h)
 
-filled_some : (o : Option ItemType) → is_some o ≡ true → o ≢ None
-filled_some o h e = cc
-
 some_empty : (types : List (Option ItemType)) (paths : List PlaceSet) → all_filled types paths ≡ true → (s t : State) → Agree (type_at types) s t → list_any (covers s) paths ≡ list_any (covers t) paths
 some_empty types [] f s t same = refl
 some_empty types (path ∷ paths) f s t same =
     let both = and_parts (covers (λ i. is_some (type_at types i)) path) (all_filled types paths) f in
-    let at : (k : ℕ) → k < 16 → members path k ≡ true → s k ≡ t k = λ k lt on. same k (filled_some (type_at types k) (covers_at path (λ i. is_some (type_at types i)) k both.0 lt on)) in
+    let at : (k : ℕ) → k < 16 → members path k ≡ true → s k ≡ t k = λ k lt on. same k (some_not_none (type_at types k) (covers_at path (λ i. is_some (type_at types i)) k both.0 lt on)) in
     let here : covers s path ≡ covers t path =
     both_ways (covers s path) (covers t path)
     (λ e. covers_named path t (λ k lt on. sym (at k lt on) ∙ covers_at path s k e lt on))
@@ -99,15 +97,11 @@ path_list_lawful types paths long filled = record {
 }
 
 -- path by path
-some_type : (o : Option ItemType) → (o ≢ None) → is_some o ≡ true
-some_type None h = absurd (h refl)
-some_type (Some t) h = refl
-
 pub allowed_filled : (types : List (Option ItemType)) (paths : List PlaceSet) → Allowed (each_path types paths) → all_filled types paths ≡ true
 allowed_filled types [] a = refl
 allowed_filled types (path ∷ paths) a =
     and_from (covers (λ i. is_some (type_at types i)) path) (all_filled types paths)
-    (covers_named path (λ i. is_some (type_at types i)) (λ k lt on. some_type (type_at types k) (λ e. a.1.0 (k, on, e))))
+    (covers_named path (λ i. is_some (type_at types i)) (λ k lt on. not_none_some (type_at types k) (λ e. a.1.0 (k, on, e))))
     (allowed_filled types paths a.1.1)
 
 -- where the paths before the path i are allowed, it decides

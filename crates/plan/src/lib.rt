@@ -55,7 +55,7 @@ mod tests {
         let mirror = Mirror { plan: list };
         assert_eq!(rt; mirror.works(PlaceSet::from(3)), false);
         assert_eq!(rt; mirror.works(PlaceSet::from(5)), true);
-        let locked = LockedPlace::new(0)?;
+        let locked = LockedPlace::try_from(0)?;
         let pile = Mirror {
             plan: Lockout {
                 plan: mirror,
@@ -72,7 +72,7 @@ mod tests {
     #[test]
     fn layers(rt: HostRuntime) -> Result<(), Fail> {
         let paths = [PlaceSet::from(3), PlaceSet::from(4)];
-        let locked = LockedPlace::new(0)?;
+        let locked = LockedPlace::try_from(0)?;
         let nested = Mirror {
             plan: Lockout {
                 plan: Mirror {
@@ -128,7 +128,7 @@ mod tests {
             PathList::new(NUMBERS, empty.to_vec(rt.alloc())?).err(),
             Some(Refusal::EmptyPlace)
         );
-        assert!(rt; LockedPlace::new(16).is_err());
+        assert!(rt; LockedPlace::try_from(16).is_err());
         Ok(())
     }
 }

@@ -14,10 +14,13 @@ pub struct LockedPlace {
     pub(crate) place: u8,
 }
 
-impl LockedPlace {
-    pub fn new(place: u8) -> Result<LockedPlace, Refusal>
-        ensures { LockoutRuled place result }
-    {
+// The place with the number, if there is one.
+impl TryFrom<u8> for LockedPlace {
+    type Error = Refusal;
+
+    ghost try_from_gives = { LockoutRuled };
+
+    fn try_from(place: u8) -> Result<Self, Refusal> {
         if place > 15 {
             return Err(Refusal::NoSuchPlace);
         }

@@ -1,6 +1,5 @@
 -- The places of standing lines.
 use Rattle.std.proofs.Common.{◌≡◌, ℕ, zero, suc, ◌<◌, Bool, true, false, cond, List, length, get_or, is_some, Some, None, Option, Result, Ok, Err, sym, refl, ap, ◌∙◌, subst, ⊎_elim, arith}
-use mathlib.Core.Logic.{∥∥₁_elim}
 use Rattle.std.specs.Option.{option_map}
 use Rattle.std.specs.Result.{IsOk}
 use Rattle.std.proofs.lemmas.Bool.{both_ways, cond-true}
@@ -17,6 +16,7 @@ use Rattle.rules.proofs.Sound.{sound, some_low, some_positive}
 use Rattle.rules.proofs.Tables.{line, part_there, laid_number}
 use Rattle.book.specs.declared.book.Book.{Book}
 use Rattle.book.specs.Keeps.{Keeps, Named, Seeks}
+use Rattle.book.proofs.Steps.{kept_bound}
 
 some_laid : (p : Option Part) (f : Part → Line) → is_some (option_map f p) ≡ is_some p
 some_laid None f = refl
@@ -79,14 +79,10 @@ not_refused h l n e on w =
     (λ v. ⊎_elim (λ u. both_ways (is_some (standing h n)) (ap is_some u.0) on) (λ u. u.1) v.1)
     w
 
--- some history has the book
-pub from_kept : (b : Book) → ((h : History) → Keeps h b → ⊥) → ⊥
-from_kept b f = ∥∥₁_elim b.kept (λ x y. absurd x) (λ k. f k.0 k.1)
-
 -- so it is found, at its place
 pub sought : (b : Book) (n : ℕ) (r : Result ℕ Refusal) → Seeks n b r → ((h : History) → Keeps h b → is_some (standing h n) ≡ true) → IsOk r
 sought b n (Ok i) s on = refl
-sought b n (Err e) s on = absurd (from_kept b (λ h k. not_refused h k.lawful n e (on h k) (s h k)))
+sought b n (Err e) s on = absurd (omega (arith, kept_bound b 1 0 (λ h k. absurd (not_refused h k.lawful n e (on h k) (s h k)))))
 
 pub found : (b : Book) (n i : ℕ) → Named n b i → (h : History) → Keeps h b → At (lines_of h) n i
 found b n i s h k = subst (λ (xs : List Line). At xs n i) k.lines s.0

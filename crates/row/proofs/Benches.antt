@@ -7,13 +7,14 @@ use Rattle.rules.specs.declared.line.Line.{Line}
 use Rattle.rules.specs.Tables.{no_line}
 use Rattle.rules.specs.History.{History, standing, lines_of, place_in}
 use Rattle.rules.specs.Ruled.{Lawful}
+use Rattle.rules.proofs.Options.{not_none_some}
 use Rattle.sums.specs.Semiring.{Meaning}
 use Rattle.book.specs.declared.book.Book.{Book}
 use Rattle.book.specs.Keeps.{Keeps}
+use Rattle.book.proofs.Steps.{kept_bound}
+use Rattle.reckoning.proofs.Places.{stands_at}
 use Rattle.survey.specs.declared.bench.Sums.{Sums}
 use Rattle.survey.specs.Surveys.{sums_of, all_sums, left_on, Surveyed}
-use Rattle.survey.proofs.Folds.{named_stands}
-use Rattle.survey.proofs.Places.{stands_at, from_kept}
 
 pub sums_at : {F : Type 0} (m : Meaning F) (h : History) → Lawful h → (n : ℕ) → is_some (standing h n) ≡ true → (old : List (Sums F)) → slice_get (left_on m h old) (place_in h n) ≡ Some (sums_of m h n)
 sums_at {F} m h l n on old =
@@ -31,9 +32,9 @@ sums_at {F} m h l n on old =
 pub sums_there : {F : Type 0} {m : Meaning F} (h : History) (b : Book) → Keeps h b → (n i : ℕ) (old new : List (Sums F)) → Surveyed m n b old new (Ok i) → slice_get new i ≡ Some (sums_of m h n)
 sums_there {F} {m} h b k n i old new s =
     let a = s.answer h k in
-    ap₂ (slice_get {X = Sums F}) (s.bench h k) a.1 ∙ sums_at m h k.lawful n (named_stands (standing h n) a.0.1.0) old
+    ap₂ (slice_get {X = Sums F}) (s.bench h k) a.1 ∙ sums_at m h k.lawful n (not_none_some (standing h n) a.0.1.0) old
 
 -- the place that an answered survey answers is on the bench
 pub place_there : {F : Type 0} {m : Meaning F} (b : Book) (n i : ℕ) (old new : List (Sums F)) (o : Option (Sums F)) → Surveyed m n b old new (Ok i) → o ≡ slice_get new i → IsSome o
 place_there b n i old new (Some d) s e = refl
-place_there b n i old new None s e = absurd (from_kept b (λ h k. none-some _ (e ∙ sums_there h b k n i old new s)))
+place_there b n i old new None s e = absurd (omega (arith, kept_bound b 1 0 (λ h k. absurd (none-some _ (e ∙ sums_there h b k n i old new s)))))

@@ -1,5 +1,5 @@
 -- The sizes of factorials.
-use Rattle.std.proofs.Common.{◌≡◌, ℕ, zero, suc, ◌+◌, ◌-◌, ◌*◌, ◌≤◌, mul-le-mul_right, mul-le-mul, mul-le-mul_left, zero-add, arith}
+use Rattle.std.proofs.Common.{◌≡◌, ℕ, zero, suc, ◌+◌, ◌-◌, ◌*◌, ◌≤◌, ap, ◌∙◌, mul-le-mul_right, mul-le-mul, mul-le-mul_left, zero-add, arith}
 use Rattle.row.specs.Rows.{factorial}
 
 factorial_positive : (n : ℕ) → 1 ≤ factorial n
@@ -20,6 +20,13 @@ few_orders a b le =
     let e : a + b + rest ≡ 7 = omega arith in
     let all : factorial (a + b) * factorial rest ≤ 5040 = rw e at (orders_among (a + b) rest) in
     omega (arith, all, orders_among a b, mul-le-mul_left (factorial (a + b)) (factorial_positive rest))
+
+-- one step of a small factorial
+pub low_step : (n r : ℕ) → n ≤ 7 → r ≡ factorial (n - 1) → n * r ≤ 5040
+low_step zero r le is = omega arith
+low_step (suc n) r le is =
+    let before : suc n - 1 ≡ n = omega arith in
+    omega (arith, few_orders (suc n) 0 (omega arith), ap (λ x. suc n * x) (is ∙ ap factorial before))
 
 -- one more item left, of which n₀ and n₁ sets keep the line working
 pub orders_rise : (i r n₀ n₁ : ℕ) → suc r * n₀ ≤ suc i * n₁ → n₀ * (factorial i * factorial (suc r)) ≤ n₁ * (factorial (suc i) * factorial r)

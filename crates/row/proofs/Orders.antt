@@ -7,8 +7,8 @@ use Rattle.rules.specs.declared.item_type.ItemType.TheVariants.{One, Two, Three}
 use Rattle.rules.specs.History.{History, standing}
 use Rattle.rules.specs.Ruled.{Lawful}
 use Rattle.rules.specs.Trees.{items, tree_of, type_in}
-use Rattle.sums.specs.ByType.{is_type}
 use Rattle.sums.specs.Sums.{working_sum}
+use Rattle.sums.proofs.Types.{is_own_type}
 use Rattle.cells.specs.Cells.{cell}
 use Rattle.cells.specs.declared.table.CellTable.{CellTable}
 use Rattle.signature.specs.Signature.{signature}
@@ -22,7 +22,7 @@ use Rattle.agreement.proofs.Agreement.{ways_agree_lem}
 use Rattle.row.specs.Rows.{factorial, of_each_type, working_with, items_beneath, FailureRow}
 use Rattle.row.specs.Steps.{AllOfType, states_with, orders_with, stops_at, Orderly}
 use Rattle.row.proofs.Factorials.{few_orders, orders_rise}
-use Rattle.row.proofs.Types.{is_own_type, count_all}
+use Rattle.row.proofs.Types.{count_all}
 
 -- what the long count of a plan says of the cells of one type
 module _ (p : Structure) (cells : List ℕ) (counted : LongCounted p cells) where
@@ -79,7 +79,7 @@ module _ (h : History) (lawful : Lawful h) (n : ℕ) (on : is_some (standing h n
   places_are : places_of plan t ≡ m
   places_are =
       ways.places t
-      ∙ count_all _ (items (tree_of h n)) (λ i m. ap (is_type t) (all i m) ∙ is_own_type t)
+      ∙ count_all _ (items (tree_of h n)) (λ i m. is_own_type t _ (all i m))
       ∙ sym many
 
   few : m ≤ 7

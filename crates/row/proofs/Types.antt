@@ -1,33 +1,17 @@
 -- The types of the items beneath a line, from those beneath its two lines.
 use Rattle.std.proofs.Common.{◌≡◌, ℕ, Bool, true, cond, List, [], ◌∷◌, length, Some, None, Option, sym, refl, ap, ◌∙◌, subst, ⊎_elim, ◌≢◌, MatchOption, arith}
 use mathlib.Core.List.Memᴰ
-use Rattle.std.proofs.lemmas.Bool.{cases_Bool, eqb-true, eqb-false, eq-eqb, cond-true, cond-false}
+use Rattle.std.proofs.lemmas.Bool.{both_ways, cases_Bool, cond-true, cond-false}
 use Rattle.rules.specs.declared.item_type.ItemType.{ItemType}
-use Rattle.rules.specs.declared.item_type.ItemType.TheVariants.{One, Two, Three}
 use Rattle.rules.specs.declared.kind.Kind.{Kind}
-use Rattle.rules.specs.Types.{type_number}
 use Rattle.rules.specs.History.{History}
 use Rattle.rules.specs.Trees.{Tree, item, block, items}
 use Rattle.sums.specs.Members.{◌∈◌}
 use Rattle.sums.specs.States.{count}
 use Rattle.sums.specs.ByType.{is_type}
+use Rattle.sums.proofs.Types.{type_is, is_own_type}
 use Rattle.row.specs.Rows.{Mixed}
 use Rattle.row.specs.Steps.{AllOfType, common_type}
-
--- a type is told by its number
-same_type : (t u : ItemType) → type_number t ≡ type_number u → t ≡ u
-same_type One One e = refl
-same_type One Two e = absurd (omega arith)
-same_type One Three e = absurd (omega arith)
-same_type Two One e = absurd (omega arith)
-same_type Two Two e = refl
-same_type Two Three e = absurd (omega arith)
-same_type Three One e = absurd (omega arith)
-same_type Three Two e = absurd (omega arith)
-same_type Three Three e = refl
-
-pub is_own_type : (t : ItemType) → is_type t (Some t) ≡ true
-is_own_type t = eq-eqb (type_number t) (type_number t) refl
 
 -- a tree has an item
 some_item : (x : Tree) → (i : ℕ) × (i ∈ items x)
@@ -53,16 +37,13 @@ module _ (types : ℕ → Option ItemType) where
   block_only k x y (Some t) (Some u) f g =
       ⊎_elim
       (λ same. subst (OnlyIn types (block k x y)) (sym (cond-true _ _ _ same))
-      (λ i m. ⊎_elim (f i) (λ r. g i r ∙ ap Some (same_type u t (eqb-true _ _ same))) (Memᴰ.append_cases (items x) m)))
+      (λ i m. ⊎_elim (f i) (λ r. g i r ∙ type_is t (Some u) same) (Memᴰ.append_cases (items x) m)))
       (λ other. subst (OnlyIn types (block k x y)) (sym (cond-false _ _ _ other)) (
         (some_item x).0,
         (some_item y).0,
         Memᴰ.append_left (items y) (some_item x).1,
         Memᴰ.append_right (items x) (some_item y).1,
-        λ e.
-            let same : Some t ≡ Some u = sym (f _ (some_item x).1) ∙ e ∙ g _ (some_item y).1 in
-            let type : u ≡ t = cc in
-            eqb-false _ _ other (ap type_number type),
+        λ e. both_ways (is_type t (Some u)) other (is_own_type t (Some u) (sym (g _ (some_item y).1) ∙ sym e ∙ f _ (some_item x).1)),
       ))
       (cases_Bool (is_type t (Some u)))
 

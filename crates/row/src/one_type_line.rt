@@ -61,20 +61,15 @@ impl OneTypeLine {
     }
 }
 
-// n!, up to 7!, as a table: std has no lemma on the product of a range.
+// n!, up to 7!.
 fn factorial(n: usize) -> u32
     requires { n ≤ 7 }
     ensures value { result ≡ n_factorial n }
     ensures small { result ≤ 5040 }
 {
-    match n {
-        0 => 1,
-        1 => 1,
-        2 => 2,
-        3 => 6,
-        4 => 24,
-        5 => 120,
-        6 => 720,
-        _ => 5040,
+    if n == 0 {
+        1
+    } else {
+        n as u32 * factorial(n - 1)
     }
 }

@@ -7,10 +7,10 @@ use Rattle.cells.proofs.Tables.{same_table, told_by_cells}
 use Rattle.signature.specs.Polynomials.{Polynomial}
 use Rattle.signature.specs.Steps.{Holds}
 
-pub getD_zeros : (n i : ℕ) → ◌≡◌ {A = ℕ} (get_or (replicate n 0) i 0) 0
-getD_zeros zero i = refl
-getD_zeros (suc n) zero = refl
-getD_zeros (suc n) (suc i) = getD_zeros n i
+pub get_or-zeros : (n i : ℕ) → ◌≡◌ {A = ℕ} (get_or (replicate n 0) i 0) 0
+get_or-zeros zero i = refl
+get_or-zeros (suc n) zero = refl
+get_or-zeros (suc n) (suc i) = get_or-zeros n i
 
 -- a table is told by the polynomial that its cells hold
 pub held : (f : Polynomial) (x : CellTable) → Holds x.cells f → x ≡ table_of f

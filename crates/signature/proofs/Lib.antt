@@ -1,4 +1,4 @@
-mod Cells
+pub mod Cells
 mod Rows
 mod Sums
 mod Adds

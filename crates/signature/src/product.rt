@@ -11,7 +11,7 @@ fn add_row(out: &mut [u16; 512], b: usize, c: usize, v: u16, row: &[u16])
     ensures { Adds out.old (in_row b c (λ a. v * slice_index row.now a)) out.new }
 {
     let to = 8 * b + 64 * c;
-    // By index: to make the eight sums by `array::from_fn` and copy them took 1.6 times as long.
+    // By index: with the eight sums made by `array::from_fn` and copied, a product took 1.6 times as long.
     for (a, x) in row.iter().enumerate() {
         out[to + a] = out[to + a].wrapping_add(v.wrapping_mul(*x));
     }

@@ -1,5 +1,6 @@
 pub mod Members
 pub mod States
+pub mod Types
 pub mod Listed
 pub mod Pivot
 pub mod Blocks

@@ -64,9 +64,9 @@ place_injective (n ∷ ns) i j e = at (eqb n i) refl (eqb n j) refl (place_injec
     at false ex false ey more e = more (suc_inj e)
 
 -- the number at its place
-pub place_getD : (ns : List ℕ) (i : ℕ) → i ∈ ns → get_or ns (place_of ns i) 0 ≡ i
-place_getD [] i m = elim m [ ]
-place_getD (n ∷ ns) i m = at (eqb n i) refl m (place_getD ns i)
+pub get_or-place_of : (ns : List ℕ) (i : ℕ) → i ∈ ns → get_or ns (place_of ns i) 0 ≡ i
+get_or-place_of [] i m = elim m [ ]
+get_or-place_of (n ∷ ns) i m = at (eqb n i) refl m (get_or-place_of ns i)
   where
     at : (x : Bool) → eqb n i ≡ x → i ∈ (n ∷ ns) → (i ∈ ns → get_or ns (place_of ns i) 0 ≡ i) → get_or (n ∷ ns) (cond x zero (suc (place_of ns i))) 0 ≡ i
     at true e m more = eqb-true n i e
@@ -74,10 +74,10 @@ place_getD (n ∷ ns) i m = at (eqb n i) refl m (place_getD ns i)
     at false e (Memᴰ.tail m) more = more m
 
 -- the number at a place is in the list
-pub getD_in : (ns : List ℕ) (p : ℕ) → p < length ns → get_or ns p 0 ∈ ns
-getD_in [] p lt = absurd (omega arith)
-getD_in (n ∷ ns) zero lt = Memᴰ.head refl
-getD_in (n ∷ ns) (suc p) lt = Memᴰ.tail (getD_in ns p (omega arith))
+pub get_or-in : (ns : List ℕ) (p : ℕ) → p < length ns → get_or ns p 0 ∈ ns
+get_or-in [] p lt = absurd (omega arith)
+get_or-in (n ∷ ns) zero lt = Memᴰ.head refl
+get_or-in (n ∷ ns) (suc p) lt = Memᴰ.tail (get_or-in ns p (omega arith))
 
 -- the places of distinct numbers are 0, 1, and so on
 places_range : (ns : List ℕ) → Distinct ns → map (place_of ns) ns ≡ range 0 (length ns)
@@ -164,7 +164,7 @@ module _ {F : Type 0} {m : Meaning F} (laws : Semiring m) where
         let f : ℕ → F = λ p. figure m (types_at types ns p) (q p) in
         ap (total m.unit m.times f) (sym (places_range ns d))
         ∙ total_map m.unit m.times (place_of ns) f (λ i. figure m (types i) (placed ns q i)) ns
-        (λ i n. ap (λ j. figure m (types j) (placed ns q i)) (place_getD ns i n))
+        (λ i n. ap (λ j. figure m (types j) (placed ns q i)) (get_or-place_of ns i n))
 
     by_place : (ns : List ℕ) → Distinct ns → (p : State → Bool)
         → sum_over m (types_at types ns) (range 0 (length ns)) (λ q. p (placed ns q)) ≡ sum_over m types ns p

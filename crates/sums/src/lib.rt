@@ -24,7 +24,8 @@ pub fn trees_stand()
     ensures { TreesStand }
 {}
 
-// The numbers from 1 to m that a list has, in rising order.
+// The numbers from 1 to m that a list has, listed in order, rise, and they are all that it has if
+// none of its numbers is 0 or above m.
 pub fn rising_stands()
     ensures { (m : ℕ) (is : List ℕ) → RisingStands m is }
 {}

@@ -1,9 +1,8 @@
 -- Going down the tree beneath a standing line.
-use Rattle.std.proofs.Common.{◌≡◌, ℕ, ◌<◌, true, is_some, Some, None, Ok, Err, Option, Result, refl, sym, ap, ◌∙◌, subst}
+use Rattle.std.proofs.Common.{◌≡◌, ℕ, ◌<◌, true, is_some, Some, Ok, Err, Option, Result, sym, ap, ◌∙◌, subst}
 use Rattle.rules.specs.declared.item_type.ItemType.{ItemType}
 use Rattle.rules.specs.declared.kind.Kind.{Kind}
 use Rattle.rules.specs.declared.line.Line.{Line}
-use Rattle.rules.specs.declared.line.Part.{Part}
 use Rattle.rules.specs.declared.line.Part.TheVariants.{Item, Block}
 use Rattle.rules.specs.declared.part_number.PartNumber.{PartNumber}
 use Rattle.rules.specs.declared.refusal.Refusal.{Refusal}
@@ -11,12 +10,14 @@ use Rattle.rules.specs.History.{History, standing, line_of}
 use Rattle.rules.specs.Rules.{Refused, Decided}
 use Rattle.rules.specs.Ruled.{naming}
 use Rattle.rules.specs.Trees.{Tree, item, block, tree_of, type_at, type_in}
+use Rattle.rules.proofs.Options.{not_none_some}
 use Rattle.sums.proofs.Forest.{lines_stand, lines_low, tree_item, tree_block}
 use Rattle.book.specs.declared.book.Book.{Book}
 use Rattle.book.specs.Keeps.{Keeps}
 use Rattle.book.proofs.Steps.{kept_bound}
+use Rattle.reckoning.proofs.Places.{not_refused}
 use Rattle.survey.specs.Folds.{Folds, at_item, at_block}
-use Rattle.survey.proofs.Places.{answer_stands, not_refused}
+use Rattle.survey.proofs.Places.{answer_stands}
 
 -- the line that a book answers for the number n
 module _ (v : Book) (n : ℕ) (x : Line) (found : (h : History) → Keeps h v → line_of h n ≡ Some x) where
@@ -61,13 +62,8 @@ pub folds_have : {A : Type 0} {gives : PartNumber → ItemType → A → Type 0}
 folds_have P (at_item n t a typed given) one both = one n t a typed given
 folds_have P (at_block k x y a b c first second joined) one both = both k x y a b c (folds_have P first one both) (folds_have P second one both) joined
 
--- a line that may be named stands
-pub named_stands : (p : Option Part) → (p ≡ None → ⊥) → is_some p ≡ true
-named_stands None f = absurd (f refl)
-named_stands (Some p) f = refl
-
 -- what follows of an answer for a standing line
 pub decided_by : {A : Type 0} (h : History) (n : ℕ) (F G : A → Type 0) → (is_some (standing h n) ≡ true → (a : A) → F a → G a) → (r : Result A Refusal)
     → Decided (naming h n) F r → Decided (naming h n) G r
-decided_by h n F G then (Ok a) d = (d.0, then (named_stands (standing h n) d.0.1.0) a d.1)
+decided_by h n F G then (Ok a) d = (d.0, then (not_none_some (standing h n) d.0.1.0) a d.1)
 decided_by h n F G then (Err e) d = d

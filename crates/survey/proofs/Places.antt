@@ -15,7 +15,6 @@ use Rattle.rules.specs.Trees.{Tree, items, tree_of}
 use Rattle.rules.proofs.Tables.{line}
 use Rattle.sums.specs.Semiring.{Meaning}
 use Rattle.sums.proofs.Forest.{tree_item, tree_block}
-pub use Rattle.reckoning.proofs.Places.{stands_at, not_refused, from_kept}
 use Rattle.survey.specs.declared.bench.Sums.{Sums}
 use Rattle.survey.specs.Surveys.{sums_of, all_sums}
 

@@ -3,7 +3,7 @@ ghost use Rattle.std.specs.List.{slice_get};
 ghost use Rattle.rules.specs.History.{lines_standing};
 ghost use Rattle.book.specs.Keeps.{Tells};
 
-use crate::joining::SumsUnder;
+use crate::sums_under::SumsUnder;
 use book::book::Book;
 use reckoning::reckon;
 use tally::Tally;

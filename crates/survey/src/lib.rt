@@ -3,7 +3,7 @@
 pub mod bench;
 pub mod beneath;
 pub mod items;
-mod joining;
+mod sums_under;
 
 ghost use Rattle.std.specs.Prelude.{◌≡◌, ℕ};
 ghost use Rattle.book.specs.Keeps.{Tells};

@@ -24,13 +24,8 @@ impl TryFrom<Shares> for Fractions {
     ghost try_from_gives = { FractionsRuled };
 
     fn try_from(shares: Shares) -> Result<Self, Refusal> {
-        Ok(Fractions {
-            by_type: ByType {
-                one: shares.one.try_into()?,
-                two: shares.two.try_into()?,
-                three: shares.three.try_into()?,
-            },
-        })
+        let by_type = shares.try_map(FixedPoint::try_from)?;
+        Ok(Fractions { by_type })
     }
 }
 

@@ -3,25 +3,19 @@ use Rattle.std.proofs.Common.{◌≡◌, ℕ, ◌+◌, ◌*◌, ◌<◌, ◌≤�
 use mathlib.Core.List.{Memᴰ}
 use Rattle.std.proofs.lemmas.Bool.{cases_lt, both_ways}
 use Rattle.rules.specs.declared.item_type.ItemType.{ItemType}
-use Rattle.rules.specs.declared.item_type.ItemType.TheVariants.{One, Two, Three}
 use Rattle.rules.specs.Trees.{State, Tree, items, works}
 use Rattle.sums.specs.States.{all_failed, states, total, keep}
 use Rattle.sums.specs.Sums.{figure, weight, failing_sum}
 use Rattle.sums.proofs.Listed.{listed, works_agree, nothing_works, total_same}
 use Rattle.tally.specs.declared.prices.Prices.{Prices}
-use Rattle.tally.specs.Pricing.{price_of, prices}
+use Rattle.tally.specs.Pricing.{prices}
 use Rattle.tally.specs.Losses.{item_loss, loss_in, CheapestLoss, CheapestLossStands}
 
 module _ (p : Prices) (types : ℕ → Option ItemType) where
-  price_limited : (t : ItemType) → price_of p t ≤ 1000000
-  price_limited One = p.limited.0
-  price_limited Two = p.limited.1
-  price_limited Three = p.limited.2
-
   item_limited : (o : Option ItemType) (v : Bool) → item_loss p o v ≤ 1000000
   item_limited None v = omega arith
   item_limited (Some t) true = omega arith
-  item_limited (Some t) false = price_limited t
+  item_limited (Some t) false = p.limited t
 
   loss_limited : (is : List ℕ) (s : State) → loss_in p types is s ≤ length is * 1000000
   loss_limited [] s = omega arith
@@ -31,7 +25,7 @@ module _ (p : Prices) (types : ℕ → Option ItemType) where
   figure_loss : (o : Option ItemType) (v : Bool) → (figure (prices p) o v).value ≡ item_loss p o v
   figure_loss None v = refl
   figure_loss (Some t) true = refl
-  figure_loss (Some t) false = omega (arith, price_limited t)
+  figure_loss (Some t) false = omega (arith, p.limited t)
 
   weight_capped : (is : List ℕ) (s : State) → (weight (prices p) types is s).value ≡ min (loss_in p types is s) 4294967295
   weight_capped [] s = refl

@@ -1,4 +1,5 @@
 ghost use Rattle.std.specs.Prelude.{◌≡◌, ◌≤◌};
+ghost use Rattle.rules.specs.ByType.{Each};
 
 use crate::Tally;
 use crate::loss::Loss;
@@ -12,7 +13,7 @@ const HIGHEST_PRICE: u32 = 1_000_000;
 #[derive(Clone, Copy, PartialEq, Eq, Debug)]
 pub struct Prices {
     each: ByType<u32>,
-    ghost limited: { (each.one ≤ 1000000) × (each.two ≤ 1000000) × (each.three ≤ 1000000) },
+    ghost limited: { Each (λ price. price ≤ 1000000) each },
 }
 
 impl Prices {

@@ -9,7 +9,7 @@ use Rattle.rules.specs.declared.change.Change.{Change}
 use Rattle.rules.specs.declared.change.Change.TheVariants as change
 use Rattle.rules.specs.declared.kind.Kind.TheVariants as kind
 use Rattle.text.specs.declared.token.Verb.{Verb}
-use Rattle.text.specs.declared.token.Verb.TheVariants.{Issue, Series, Parallel, Withdraw, Close}
+use Rattle.text.specs.declared.token.Verb.TheVariants.{Issue, Join, Withdraw, Close}
 use Rattle.text.specs.Texts.{longer, words_in, before, after}
 use Rattle.text.specs.Numbers.{is_digit, number_in}
 use Rattle.text.specs.Tokens.{Seen, word, verb_of, letter_or, token_of, placed, tokens}
@@ -109,8 +109,8 @@ two_from q a b ha hb =
 pub verb_told : (b : ℕ) (v : Verb) → verb_of b ≡ Some v → b ≡ verb_letter v
 verb_told b v h =
     ⊎_elim (λ e. let g : Some Issue ≡ Some v = rw e at h in let q : Issue ≡ v = cc in eqb-true b 73 e ∙ ap verb_letter q)
-    (λ n1. let h1 = rw n1 at h in ⊎_elim (λ e. let g : Some Series ≡ Some v = rw e at h1 in let q : Series ≡ v = cc in eqb-true b 83 e ∙ ap verb_letter q)
-    (λ n2. let h2 = rw n2 at h1 in ⊎_elim (λ e. let g : Some Parallel ≡ Some v = rw e at h2 in let q : Parallel ≡ v = cc in eqb-true b 80 e ∙ ap verb_letter q)
+    (λ n1. let h1 = rw n1 at h in ⊎_elim (λ e. let g : Some (Join kind.Series) ≡ Some v = rw e at h1 in let q : Join kind.Series ≡ v = cc in eqb-true b 83 e ∙ ap verb_letter q)
+    (λ n2. let h2 = rw n2 at h1 in ⊎_elim (λ e. let g : Some (Join kind.Parallel) ≡ Some v = rw e at h2 in let q : Join kind.Parallel ≡ v = cc in eqb-true b 80 e ∙ ap verb_letter q)
     (λ n3. let h3 = rw n3 at h2 in ⊎_elim (λ e. let g : Some Withdraw ≡ Some v = rw e at h3 in let q : Withdraw ≡ v = cc in eqb-true b 87 e ∙ ap verb_letter q)
     (λ n4. let h4 = rw n4 at h3 in ⊎_elim (λ e. let g : Some Close ≡ Some v = rw e at h4 in let q : Close ≡ v = cc in eqb-true b 69 e ∙ ap verb_letter q)
     (λ n5. absurd (let g : None ≡ Some v = rw n5 at h4 in let z : ◌≡◌ {A = ℕ} 0 1 = cc in omega arith))
@@ -118,8 +118,8 @@ verb_told b v h =
 
 verb_from : (v : Verb) → verb_of (verb_letter v) ≡ Some v
 verb_from Issue = refl
-verb_from Series = refl
-verb_from Parallel = refl
+verb_from (Join kind.Series) = refl
+verb_from (Join kind.Parallel) = refl
 verb_from Withdraw = refl
 verb_from Close = refl
 
@@ -139,8 +139,8 @@ says_told says p l x h = split (words_in l) refl h
 
 says_from : {X : Type 0} (says : Verb → List Seen → Option X) (p : ℕ) (v : Verb) (s : List ℕ) → by_verb says (tokens p (verb_letter v ∷ 32 ∷ s)) ≡ says v (placed (p + 2) (words_in s))
 says_from says p Issue s = refl
-says_from says p Series s = refl
-says_from says p Parallel s = refl
+says_from says p (Join kind.Series) s = refl
+says_from says p (Join kind.Parallel) s = refl
 says_from says p Withdraw s = refl
 says_from says p Close s = refl
 
@@ -162,11 +162,11 @@ change_told Issue q ws d h =
     let m = mapped_told change.Issue (one_number (placed q ws)) d h in
     let k = one_told q ws m.0 m.1 in
     (ap (λ us. spaced ((73 ∷ []) ∷ us)) k.0 ∙ sym (ap written m.2), subst Short (sym m.2) k.1)
-change_told Series q ws d h =
+change_told (Join kind.Series) q ws d h =
     let m = mapped_told (joined kind.Series) (two_numbers (placed q ws)) d h in
     let k = two_told q ws m.0 m.1 in
     (ap (λ us. spaced ((83 ∷ []) ∷ us)) k.0 ∙ sym (ap written m.2), subst Short (sym m.2) (k.1, k.2))
-change_told Parallel q ws d h =
+change_told (Join kind.Parallel) q ws d h =
     let m = mapped_told (joined kind.Parallel) (two_numbers (placed q ws)) d h in
     let k = two_told q ws m.0 m.1 in
     (ap (λ us. spaced ((80 ∷ []) ∷ us)) k.0 ∙ sym (ap written m.2), subst Short (sym m.2) (k.1, k.2))
@@ -178,18 +178,17 @@ change_told Close q ws d h = absurd (let z : ◌≡◌ {A = ℕ} 0 1 = cc in ome
 
 closing_told : (v : Verb) (q : ℕ) (ws : List (List ℕ)) (cf : ℕ × ℕ) → closing_by v (placed q ws) ≡ Some cf → (spaced ((verb_letter v ∷ []) ∷ ws) ≡ with_two 69 cf.0 cf.1) × (cf.0 < 100000) × (cf.1 < 100000)
 closing_told Issue q ws cf h = absurd (let z : ◌≡◌ {A = ℕ} 0 1 = cc in omega arith)
-closing_told Series q ws cf h = absurd (let z : ◌≡◌ {A = ℕ} 0 1 = cc in omega arith)
-closing_told Parallel q ws cf h = absurd (let z : ◌≡◌ {A = ℕ} 0 1 = cc in omega arith)
+closing_told (Join k) q ws cf h = absurd (let z : ◌≡◌ {A = ℕ} 0 1 = cc in omega arith)
 closing_told Withdraw q ws cf h = absurd (let z : ◌≡◌ {A = ℕ} 0 1 = cc in omega arith)
 closing_told Close q ws cf h = let k = two_told q ws cf h in (ap (λ us. spaced ((69 ∷ []) ∷ us)) k.0, k.1, k.2)
 
 written_read : (p : ℕ) (d : Change) → Short d → by_verb change_by (tokens p (written d)) ≡ Some d
 written_read p (change.Issue t) h = says_from change_by p Issue (decimal t) ∙ ap (option_map change.Issue) (one_read (p + 2) t h)
 written_read p (change.Join kind.Series a b) h =
-    says_from change_by p Series (decimal a.value ++ 32 ∷ decimal b.value)
+    says_from change_by p (Join kind.Series) (decimal a.value ++ 32 ∷ decimal b.value)
     ∙ ap (option_map (joined kind.Series)) (two_read (p + 2) a.value b.value h.0 h.1)
 written_read p (change.Join kind.Parallel a b) h =
-    says_from change_by p Parallel (decimal a.value ++ 32 ∷ decimal b.value)
+    says_from change_by p (Join kind.Parallel) (decimal a.value ++ 32 ∷ decimal b.value)
     ∙ ap (option_map (joined kind.Parallel)) (two_read (p + 2) a.value b.value h.0 h.1)
 written_read p (change.Withdraw n) h = says_from change_by p Withdraw (decimal n.value) ∙ ap (option_map (λ m. change.Withdraw (record { value = m }))) (one_read (p + 2) n.value h)
 

@@ -1,8 +1,9 @@
 -- What holds of every text.
 use Rattle.std.specs.Prelude.{◌≡◌, ℕ, List, [], ◌∷◌, ◌++◌, length}
 use Rattle.std.specs.List.{AllByRecursion}
+use Rattle.rules.specs.declared.kind.Kind.TheVariants.{Series, Parallel}
 use Rattle.text.specs.declared.token.Verb.{Verb}
-use Rattle.text.specs.declared.token.Verb.TheVariants.{Issue, Series, Parallel, Withdraw, Close}
+use Rattle.text.specs.declared.token.Verb.TheVariants.{Issue, Join, Withdraw, Close}
 use Rattle.text.specs.Texts.{Line, lines_of}
 use Rattle.text.specs.Tokens.{Seen, letter, word, tokens}
 use Rattle.text.specs.Written.{LinesWritten}
@@ -13,8 +14,8 @@ Stands text place bytes = (front rest : List ℕ) × (text ≡ front ++ (bytes +
 
 abbrev pub verb_letter : Verb → ℕ
 verb_letter Issue = 73
-verb_letter Series = 83
-verb_letter Parallel = 80
+verb_letter (Join Series) = 83
+verb_letter (Join Parallel) = 80
 verb_letter Withdraw = 87
 verb_letter Close = 69
 

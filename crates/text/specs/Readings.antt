@@ -4,10 +4,9 @@ use Rattle.std.specs.Option.{option_map, option_and_then}
 use Rattle.rules.specs.declared.change.Change.{Change}
 use Rattle.rules.specs.declared.change.Change.TheVariants as change
 use Rattle.rules.specs.declared.kind.Kind.{Kind}
-use Rattle.rules.specs.declared.kind.Kind.TheVariants as kind
 use Rattle.rules.specs.declared.part_number.PartNumber.{PartNumber}
 use Rattle.text.specs.declared.token.Verb.{Verb}
-use Rattle.text.specs.declared.token.Verb.TheVariants.{Issue, Series, Parallel, Withdraw, Close}
+use Rattle.text.specs.declared.token.Verb.TheVariants.{Issue, Join, Withdraw, Close}
 use Rattle.text.specs.Texts.{Line}
 use Rattle.text.specs.Numbers.{number_in}
 use Rattle.text.specs.Tokens.{Seen, letter, word, tokens}
@@ -41,16 +40,14 @@ joined k ab = change.Join k (part ab.0) (part ab.1)
 -- the change that a verb and the words after it ask for: `I t`, `S a b`, `P a b` or `W n`
 abbrev pub change_by : Verb → List Seen → Option Change
 change_by Issue ts = option_map change.Issue (one_number ts)
-change_by Series ts = option_map (joined kind.Series) (two_numbers ts)
-change_by Parallel ts = option_map (joined kind.Parallel) (two_numbers ts)
+change_by (Join k) ts = option_map (joined k) (two_numbers ts)
 change_by Withdraw ts = option_map (λ n. change.Withdraw (part n)) (one_number ts)
 change_by Close ts = None
 
 -- the numbers c and f of a closing line `E c f`
 abbrev pub closing_by : Verb → List Seen → Option (ℕ × ℕ)
 closing_by Issue ts = None
-closing_by Series ts = None
-closing_by Parallel ts = None
+closing_by (Join k) ts = None
 closing_by Withdraw ts = None
 closing_by Close ts = two_numbers ts
 

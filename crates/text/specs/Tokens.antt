@@ -1,9 +1,10 @@
 -- The words of a line as tokens.
 use Rattle.std.specs.Prelude.{ℕ, suc, ◌+◌, cond, List, [], ◌∷◌, length, Some, None, Option, ◌==◌}
+use Rattle.rules.specs.declared.kind.Kind.TheVariants.{Series, Parallel}
 use Rattle.text.specs.declared.token.Token.{Token}
 use Rattle.text.specs.declared.token.Token.TheVariants as token
 use Rattle.text.specs.declared.token.Verb.{Verb}
-use Rattle.text.specs.declared.token.Verb.TheVariants.{Issue, Series, Parallel, Withdraw, Close}
+use Rattle.text.specs.declared.token.Verb.TheVariants.{Issue, Join, Withdraw, Close}
 use Rattle.text.specs.Texts.{words_in}
 
 -- a token without its loan: a verb, or the bytes of another word; and the place of its first byte
@@ -19,8 +20,8 @@ seen (token.Word w p) = word w.now p
 abbrev pub verb_of : ℕ → Option Verb
 verb_of b =
     cond (b == 73) (Some Issue)
-    (cond (b == 83) (Some Series)
-    (cond (b == 80) (Some Parallel)
+    (cond (b == 83) (Some (Join Series))
+    (cond (b == 80) (Some (Join Parallel))
     (cond (b == 87) (Some Withdraw)
     (cond (b == 69) (Some Close) None))))
 

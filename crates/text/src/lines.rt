@@ -7,7 +7,7 @@ use rules::change::Change;
 
 // A line of a text: its bytes but the byte 10, its number from 1, and the place of its first byte. The
 // places of its words fit.
-#[derive(Clone, Copy)]
+#[derive(Clone, Copy, PartialEq, Eq, Debug)]
 pub struct SheetLine<'a> {
     pub bytes: &'a [u8],
     pub number: usize,
@@ -53,7 +53,7 @@ impl<'a> SheetLine<'a> {
 // The lines that are still to be read: those of `text`, which begins at `place`, after the lines
 // that were taken. No cursor serves both lines and words: the bytes after the last byte 10 are no line,
 // but those after the last space are a word.
-#[derive(Clone, Copy)]
+#[derive(Clone, Copy, PartialEq, Eq, Debug)]
 pub struct Lines<'a> {
     text: &'a [u8],
     taken: usize,

@@ -3,19 +3,19 @@ ghost use Rattle.text.specs.Tokens.{verb_of, seen, token_of};
 ghost use Rattle.text.specs.Readings.{value};
 
 use crate::number::read_number;
+use rules::kind::Kind;
 
 // What a line asks for, which its first letter decides.
-#[derive(Clone, Copy)]
+#[derive(Clone, Copy, PartialEq, Eq, Debug)]
 pub enum Verb {
     Issue,
-    Series,
-    Parallel,
+    Join(Kind),
     Withdraw,
     Close,
 }
 
 // A word of a sheet, and the place of its first byte: a verb, or any other part of the text.
-#[derive(Clone, Copy)]
+#[derive(Clone, Copy, PartialEq, Eq, Debug)]
 pub enum Token<'a> {
     Verb(Verb, usize),
     Word(&'a [u8], usize),
@@ -28,8 +28,8 @@ impl Verb {
     {
         match letter {
             'I' => Some(Verb::Issue),
-            'S' => Some(Verb::Series),
-            'P' => Some(Verb::Parallel),
+            'S' => Some(Verb::Join(Kind::Series)),
+            'P' => Some(Verb::Join(Kind::Parallel)),
             'W' => Some(Verb::Withdraw),
             'E' => Some(Verb::Close),
             _ => None,
@@ -41,13 +41,12 @@ impl<'a> Token<'a> {
     pub fn new(word: &'a [u8], place: usize) -> Token<'a>
         ensures { seen result ≡ token_of word.now place }
     {
-        match word {
-            [letter] => match Verb::from_letter(*letter as char) {
-                Some(verb) => Token::Verb(verb, place),
-                None => Token::Word(word, place),
-            },
-            _ => Token::Word(word, place),
+        if let [letter] = word
+            && let Some(verb) = Verb::from_letter(*letter as char)
+        {
+            return Token::Verb(verb, place);
         }
+        Token::Word(word, place)
     }
 
     // The number that the token stands for; a verb is none.

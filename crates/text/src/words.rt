@@ -9,7 +9,7 @@ use rules::part_number::PartNumber;
 
 // The words of a line that are still to be read: those of `rest`, which begins at `place`. Their
 // places fit, and so does the place behind them.
-#[derive(Clone, Copy)]
+#[derive(Clone, Copy, PartialEq, Eq, Debug)]
 pub struct Words<'a> {
     rest: Option<&'a [u8]>,
     place: usize,
@@ -68,8 +68,7 @@ impl<'a> Words<'a> {
     {
         match verb {
             Verb::Issue => self.one_number().map(Change::Issue),
-            Verb::Series => self.joining(Kind::Series),
-            Verb::Parallel => self.joining(Kind::Parallel),
+            Verb::Join(kind) => self.joining(kind),
             Verb::Withdraw => self
                 .one_number()
                 .map(|number| Change::Withdraw(PartNumber::new(number))),
@@ -83,7 +82,7 @@ impl<'a> Words<'a> {
     {
         match verb {
             Verb::Close => self.two_numbers(),
-            Verb::Issue | Verb::Series | Verb::Parallel | Verb::Withdraw => None,
+            Verb::Issue | Verb::Join(_) | Verb::Withdraw => None,
         }
     }
 }

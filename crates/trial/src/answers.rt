@@ -38,7 +38,7 @@ pub fn answer<W: Write>(
         Command::Question(number) => show_line(book.question(number), out)?,
         Command::Sheet(text) => show_sheet(enter(&text, book), out)?,
         Command::Count(asked) => show_survey(heap, book, &Count, asked, out)?,
-        Command::Prices(one, two, three, asked) => match Prices::new(one, two, three) {
+        Command::Prices(each, asked) => match Prices::new(each.one, each.two, each.three) {
             Ok(prices) => show_survey(heap, book, &prices, asked, out)?,
             Err(refusal) => writeln!(out, "{refusal}")?,
         },

@@ -1,35 +1,33 @@
 use crate::hex::read_hex;
 use anyhow::{Context, anyhow};
 use place_set::PlaceSet;
+use plan::lockout::LockedPlace;
+use plan::pile::Layer;
+use rules::by_type::ByType;
 use rules::kind::Kind;
 use rules::part_number::PartNumber;
+use rules::refusal::Refusal;
 use std::alloc::Global;
 use survival::shares::Shares;
 
-// A layer that is to be laid over a plan.
-#[derive(Clone, Copy)]
-pub enum Layer {
-    Lockout(u8),
-    Mirror,
-}
-
-// What a path list is to be made of, and what is to be laid over it.
-#[derive(Drop)]
+// What a path list is to be made of, and what is to be laid over it: layers, and the refusals of
+// those that cannot be laid.
+#[derive(PartialEq, Eq, Debug, Drop)]
 pub struct PathScript {
     pub numbers: [u8; 16],
     pub paths: Vec<PlaceSet>,
-    pub layers: Vec<Layer>,
+    pub layers: Vec<Result<Layer, Refusal>>,
 }
 
 // A survey of a line on a bench of so many places.
-#[derive(Clone, Copy)]
+#[derive(Clone, Copy, PartialEq, Eq, Debug)]
 pub struct Survey {
     pub number: PartNumber,
     pub places: u16,
 }
 
 // A line of a script.
-#[derive(Drop)]
+#[derive(PartialEq, Eq, Debug, Drop)]
 pub enum Command {
     New,
     Issue(u32),
@@ -39,12 +37,12 @@ pub enum Command {
     Question(PartNumber),
     Sheet(Vec<u8>),
     Count(Survey),
-    Prices(u32, u32, u32, Survey),
+    Prices(ByType<u32>, Survey),
     Signature(Survey),
     Survival(PartNumber, Shares),
     Row(Survey),
     Account,
-    Plan(PartNumber, Vec<Layer>),
+    Plan(PartNumber, Vec<Result<Layer, Refusal>>),
     Paths(PathScript),
 }
 
@@ -76,12 +74,14 @@ fn read_figures(words: &[&str]) -> anyhow::Result<Command> {
         ["count", number, places] => Ok(Command::Count(read_survey(number, places)?)),
         ["signature", number, places] => Ok(Command::Signature(read_survey(number, places)?)),
         ["row", number, places] => Ok(Command::Row(read_survey(number, places)?)),
-        ["prices", one, two, three, number, places] => Ok(Command::Prices(
-            one.parse::<u32>()?,
-            two.parse::<u32>()?,
-            three.parse::<u32>()?,
-            read_survey(number, places)?,
-        )),
+        ["prices", one, two, three, number, places] => {
+            let prices = ByType {
+                one: one.parse::<u32>()?,
+                two: two.parse::<u32>()?,
+                three: three.parse::<u32>()?,
+            };
+            Ok(Command::Prices(prices, read_survey(number, places)?))
+        }
         ["survival", number, one, two, three] => {
             let shares = Shares {
                 one: one.parse::<u32>()?,
@@ -132,10 +132,7 @@ fn read_paths(heap: Global, words: &[&str]) -> anyhow::Result<PathScript> {
     let Some((masks, rest)) = rest.split_at_checked(count.parse::<usize>()?) else {
         return Err(anyhow!("a path is missing"));
     };
-    let mut paths = Vec::new(heap);
-    for mask in masks {
-        paths.push(PlaceSet::from(mask.parse::<u16>()?))?;
-    }
+    let paths = masks.iter().map(|mask| read_path(mask)).try_collect(heap)?;
     let layers = read_layers(heap, rest)?;
     Ok(PathScript {
         numbers,
@@ -144,21 +141,19 @@ fn read_paths(heap: Global, words: &[&str]) -> anyhow::Result<PathScript> {
     })
 }
 
-fn read_layers(heap: Global, words: &[&str]) -> anyhow::Result<Vec<Layer>> {
-    if words.len() > 3 {
-        return Err(anyhow!("more than three layers"));
-    }
-    let mut layers = Vec::new(heap);
-    for word in words {
-        layers.push(read_layer(word)?)?;
-    }
-    Ok(layers)
+fn read_path(word: &str) -> anyhow::Result<PlaceSet> {
+    Ok(PlaceSet::from(word.parse::<u16>()?))
 }
 
-fn read_layer(word: &str) -> anyhow::Result<Layer> {
+fn read_layers(heap: Global, words: &[&str]) -> anyhow::Result<Vec<Result<Layer, Refusal>>> {
+    words.iter().map(|word| read_layer(word)).try_collect(heap)
+}
+
+// The layer that the word writes, or why it is refused.
+fn read_layer(word: &str) -> anyhow::Result<Result<Layer, Refusal>> {
     if word == "M" {
-        return Ok(Layer::Mirror);
+        return Ok(Ok(Layer::Mirror));
     }
     let place = word.strip_prefix('L').context("no such layer")?;
-    Ok(Layer::Lockout(place.parse::<u8>()?))
+    Ok(LockedPlace::try_from(place.parse::<u8>()?).map(Layer::Lockout))
 }

@@ -4,69 +4,42 @@ use book::book::Book;
 use cells::table::CellTable;
 use row::failure_row;
 use std::alloc::{AllocError, Global};
-use std::io;
+use std::fmt::Display;
 use std::io::Write;
+use std::{array, io};
 use survey::bench::{Bench, Sums};
 use survey::survey;
 use tally::Tally;
 use tally::loss::Loss;
 use tally::state_count::StateCount;
 
-// A figure as it stands on a bench before a survey, and as it is shown.
-pub trait Shown: Copy + PartialEq {
-    // What stands at a place before the survey. No survey leaves it.
+// A figure that is shown, and what stands at a place before a survey. No survey leaves that.
+pub trait Shown: Copy + PartialEq + Display {
     fn junk(place: u16) -> Self;
-
-    fn show<W: Write>(&self, out: &mut W) -> io::Result<()>;
 }
 
-fn junk_number(place: u16) -> u32 {
-    4_000_000_000 + u32::from(place)
+impl Shown for u32 {
+    fn junk(place: u16) -> u32 {
+        4_000_000_000 + u32::from(place)
+    }
 }
 
 impl Shown for StateCount {
     fn junk(place: u16) -> StateCount {
-        StateCount::new(junk_number(place))
-    }
-
-    fn show<W: Write>(&self, out: &mut W) -> io::Result<()> {
-        write!(out, "{self}")
+        StateCount::new(u32::junk(place))
     }
 }
 
 impl Shown for Loss {
     fn junk(place: u16) -> Loss {
-        Loss::new(junk_number(place))
-    }
-
-    fn show<W: Write>(&self, out: &mut W) -> io::Result<()> {
-        write!(out, "{self}")
+        Loss::new(u32::junk(place))
     }
 }
 
 impl Shown for CellTable {
     fn junk(place: u16) -> CellTable {
-        let mut cells = [40_000u16.wrapping_add(place); 512];
-        for (k, cell) in (0u16..).zip(cells.iter_mut()) {
-            *cell = cell.wrapping_add(k);
-        }
-        CellTable::new(cells)
-    }
-
-    // The cells that are not 0, as ABC:VALUE.
-    fn show<W: Write>(&self, out: &mut W) -> io::Result<()> {
-        let mut separator = "";
-        for (k, value) in self.cells().iter().enumerate() {
-            if *value != 0 {
-                let (a, b, c) = (k % 8, k / 8 % 8, k / 64);
-                write!(out, "{separator}{a}{b}{c}:{value}")?;
-                separator = ",";
-            }
-        }
-        if separator.is_empty() {
-            write!(out, "0")?;
-        }
-        Ok(())
+        let first = 40_000u16.wrapping_add(place);
+        CellTable::new(array::from_fn(|k| first.wrapping_add(k as u16)))
     }
 }
 
@@ -75,7 +48,7 @@ pub fn show_at<F: Shown, W: Write>(figure: &F, place: u16, out: &mut W) -> io::R
     if *figure == F::junk(place) {
         write!(out, "junk")
     } else {
-        figure.show(out)
+        write!(out, "{figure}")
     }
 }
 
@@ -116,7 +89,7 @@ pub fn show_row<W: Write>(
 ) -> anyhow::Result<()> {
     let mut places = junk_places::<CellTable>(heap, asked.places)?;
     let mut bench = Bench::new(places.as_mut_slice());
-    let mut row = [junk_number(0); 7];
+    let mut row = [u32::junk(0); 7];
     match failure_row(book, asked.number, &mut bench, &mut row) {
         Ok(()) => write!(out, "row")?,
         Err(refusal) => write!(out, "{refusal} row")?,
@@ -128,11 +101,8 @@ pub fn show_row<W: Write>(
 
 fn show_entries<W: Write>(row: &[u32; 7], out: &mut W) -> io::Result<()> {
     for entry in row {
-        if *entry == junk_number(0) {
-            write!(out, " junk")?;
-        } else {
-            write!(out, " {entry}")?;
-        }
+        write!(out, " ")?;
+        show_at(entry, 0, out)?;
     }
     writeln!(out)
 }

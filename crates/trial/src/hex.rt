@@ -3,7 +3,8 @@ ghost use Rattle.std.specs.Prelude.{◌<◌, IfSome};
 use anyhow::{Context, anyhow};
 use std::alloc::Global;
 
-// The bytes that a word writes, two hexadecimal digits each.
+// The bytes that a word writes, two hexadecimal digits each. The kit's crate hex takes capitals too,
+// and a script has none.
 pub fn read_hex(heap: Global, word: &str) -> anyhow::Result<Vec<u8>> {
     let digits = word.as_bytes();
     if digits.len() % 2 != 0 {

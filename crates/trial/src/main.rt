@@ -19,10 +19,10 @@
 //     row N PLACES                   row with its seven entries, and the bench
 //     account                        given G standing S withdrawn W
 //     paths T0 .. T15 K P1 .. PK LAYERS
-//                                    a path list of K paths, with up to three layers over it, the
-//                                    lowest first: M, a mirror, or L and a place, a lockout. A
-//                                    refused lockout prints its refusal, and the pile goes on
-//                                    without it. Then: long counted CELLS, totals counted CELLS
+//                                    a path list of K paths, with layers over it, the lowest first:
+//                                    M, a mirror, or L and a place, a lockout. A refused lockout
+//                                    prints its refusal, and the pile goes on without it. Then:
+//                                    long counted CELLS, totals counted CELLS
 //     plan N LAYERS                  the same with a line's plan
 //
 // A refusal is `refused R`. A bench and a table hold junk before the call, and are shown after it,

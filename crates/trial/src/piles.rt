@@ -1,11 +1,10 @@
-use crate::command::{Layer, PathScript};
+use crate::command::PathScript;
 use crate::figures::{Shown, show_at};
 use cells::table::CellTable;
 use count::{long_count, totals};
-use plan::lockout::LockedPlace;
+use plan::Plan;
 use plan::path_list::PathList;
-use plan::pile::Pile;
-use plan::{Plan, pile};
+use plan::pile::{Layer, Pile};
 use rules::refusal::Refusal;
 use std::alloc::Global;
 use std::io;
@@ -25,7 +24,7 @@ pub fn show_paths<W: Write>(heap: Global, script: PathScript, out: &mut W) -> an
 pub fn show_plan<P: Plan + Drop, W: Write>(
     heap: Global,
     made: Result<P, Refusal>,
-    layers: &[Layer],
+    layers: &[Result<Layer, Refusal>],
     out: &mut W,
 ) -> anyhow::Result<()> {
     match made {
@@ -39,15 +38,16 @@ pub fn show_plan<P: Plan + Drop, W: Write>(
 }
 
 // The layers that are not refused; shows the refusals of the others.
-fn lay<W: Write>(heap: Global, layers: &[Layer], out: &mut W) -> anyhow::Result<Vec<pile::Layer>> {
+fn lay<W: Write>(
+    heap: Global,
+    layers: &[Result<Layer, Refusal>],
+    out: &mut W,
+) -> anyhow::Result<Vec<Layer>> {
     let mut laid = Vec::new(heap);
     for layer in layers {
         match layer {
-            Layer::Mirror => laid.push(pile::Layer::Mirror)?,
-            Layer::Lockout(place) => match LockedPlace::new(*place) {
-                Ok(locked) => laid.push(pile::Layer::Lockout(locked))?,
-                Err(refusal) => writeln!(out, "{refusal}")?,
-            },
+            Ok(layer) => laid.push(*layer)?,
+            Err(refusal) => writeln!(out, "{refusal}")?,
         }
     }
     Ok(laid)

@@ -1,5 +1,5 @@
 -- Tests of what the rules say of changes: where a test passes, the change is allowed.
-use Rattle.std.proofs.Common.{◌≡◌, ℕ, ◌<◌, ◌≤◌, Bool, true, not, ◌&&◌, eqb, ltb, leb, ◌⊎◌, List, [], ◌∷◌, ◌++◌, is_some, None, Option, ap, ⊎_elim, arith}
+use Rattle.std.proofs.Common.{◌≡◌, ℕ, ◌<◌, ◌≤◌, Bool, true, not, ◌&&◌, eqb, ltb, leb, ◌⊎◌, List, [], ◌∷◌, ◌++◌, is_some, ⊎_elim, arith}
 use Rattle.std.proofs.lemmas.Bool.{both_ways, and_parts, not-true, leb-true, ltb-true, eqb-false}
 use Rattle.rules.specs.declared.change.Change.{Change}
 use Rattle.rules.specs.declared.change.Change.TheVariants.{Issue, Join, Withdraw}
@@ -8,10 +8,8 @@ use Rattle.rules.specs.Types.{type_numbered}
 use Rattle.rules.specs.History.{History, given, standing, is_built_in, items_standing, items_of_type}
 use Rattle.rules.specs.Rules.{Rule, ◌when◌, Allowed}
 use Rattle.rules.specs.Ruled.{naming, using_line, change_rules, Lawful}
+use Rattle.rules.proofs.Options.{some_not_none}
 use Rattle.plan.specs.Deciding.{allowed_append}
-
-pub some_not_none : {X : Type 0} (o : Option X) → is_some o ≡ true → o ≡ None → ⊥
-some_not_none o on e = both_ways (is_some o) (ap is_some e) on
 
 -- a number that was given
 abbrev pub is_given : History → ℕ → Bool

@@ -1,4 +1,3 @@
-pub mod Zeros
 pub mod Deciding
 pub mod Cells
 pub mod Paths

@@ -3,20 +3,20 @@ use Rattle.std.proofs.Common.{◌≡◌, ℕ, zero, suc, ◌^◌, ◌<◌, ◌�
 use Rattle.std.proofs.lemmas.Bool.{true≢false, cases_lt, both_ways}
 use Rattle.rules.specs.declared.item_type.ItemType.{ItemType}
 use Rattle.rules.specs.Rules.{Allowed}
+use Rattle.rules.proofs.Options.{some_not_none}
 use Rattle.place_set.specs.declared.PlaceSet.{PlaceSet}
 use Rattle.place_set.specs.Sets.{members}
 use Rattle.plan.specs.Paths.{types_of, type_at, covers, path_list_rules}
 use Rattle.place_set.proofs.Masks.{bit_above}
 use Rattle.plan.specs.PathsLemmas.{covers_at}
 use Rattle.worked.specs.Worked.{example_types, example_paths}
-use Rattle.worked.proofs.Zeros.{zeros}
-use Rattle.worked.proofs.Deciding.{some_not_none}
+use Rattle.signature.proofs.Cells.{get_or-zeros}
 
 types_known : (i : ℕ) → get_or example_types i 0 ≤ 3
 types_known zero = lit≤ tt
 types_known (suc zero) = lit≤ tt
 types_known (suc (suc zero)) = lit≤ tt
-types_known (suc (suc (suc i))) = omega (arith, zeros 13 i)
+types_known (suc (suc (suc i))) = omega (arith, get_or-zeros 13 i)
 
 -- a path whose places all have types names no empty one
 filled : (types : List (Option ItemType)) (path : PlaceSet) → path.mask < 2 ^ 16 → covers (λ i. is_some (type_at types i)) path ≡ true

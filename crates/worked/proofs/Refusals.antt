@@ -8,9 +8,10 @@ use Rattle.rules.specs.declared.refusal.Refusal.TheVariants.{TooManyItems, TooMa
 use Rattle.rules.specs.Types.{type_number, type_numbered}
 use Rattle.rules.specs.Rules.{Allowed, Refused}
 use Rattle.rules.specs.Ruled.{naming, change_rules, Lawful}
+use Rattle.rules.proofs.Options.{some_not_none}
 use Rattle.survey.specs.Surveys.{survey_rules}
 use Rattle.worked.specs.Worked.{line, example, with_6, issued, sixteen}
-use Rattle.worked.proofs.Deciding.{some_not_none, was_given, name_allowed, lawful}
+use Rattle.worked.proofs.Deciding.{was_given, name_allowed, lawful}
 
 pub withdraw_4 : Refused (change_rules example (Withdraw (line 4))) BuiltIn
 withdraw_4 = let a = name_allowed example 4 refl in inr (a.0, inr (a.1.0, inl (refl, refl)))

@@ -11,7 +11,7 @@ use Rattle.sums.specs.Members.{◌∈◌}
 use Rattle.count.specs.Counts.{places}
 use Rattle.row.specs.Rows.{factorial, working_with, FailureRow, row_rules}
 use Rattle.worked.specs.Worked.{of_one_type}
-use Rattle.worked.proofs.Zeros.{zeros}
+use Rattle.signature.proofs.Cells.{get_or-zeros}
 use Rattle.worked.proofs.Deciding.{name_allowed, lawful}
 
 pub row_lawful : (t : ItemType) → Lawful (of_one_type t)
@@ -57,7 +57,7 @@ after : (k : ℕ) → 3 ≤ k → get_or row k 0 ≡ 0
 after zero h = absurd (omega arith)
 after (suc zero) h = absurd (omega arith)
 after (suc (suc zero)) h = absurd (omega arith)
-after (suc (suc (suc k))) h = zeros 4 k
+after (suc (suc (suc k))) h = get_or-zeros 4 k
 
 pub row_is : (t : ItemType) → FailureRow (of_one_type t) 5 t row
 row_is t = record {

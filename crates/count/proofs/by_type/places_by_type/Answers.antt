@@ -2,7 +2,7 @@ use Rattle.std.proofs.Common.{◌≡◌, ◌≤◌, arith}
 use Rattle.rules.specs.ByType.{of_type}
 use Rattle.place_set.specs.Sets.{members}
 use Rattle.count.specs.Counts.{places_of, is_of_type}
-use Rattle.count.proofs.Lists.{each_type}
+use Rattle.sums.proofs.Types.{each_type}
 use Rattle.count.proofs.by_type.places_by_type.Goals as goal
 
 pub returns : goal.returns

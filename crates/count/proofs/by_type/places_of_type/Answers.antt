@@ -2,7 +2,8 @@ use Rattle.std.proofs.Common.{sym, ap, ◌∙◌, arith, rules}
 use Rattle.place_set.specs.Sets.{members}
 use Rattle.sums.specs.ByType.{is_type}
 use Rattle.count.specs.Counts.{is_of_type}
-use Rattle.count.proofs.Lists.{is_own_type, is_other_type, gathered_none, gathered_one}
+use Rattle.sums.proofs.Types.{is_own_type, is_other_type}
+use Rattle.count.proofs.Lists.{gathered_none, gathered_one}
 use Rattle.count.proofs.by_type.places_of_type.Goals as goal
 use Rattle.count.proofs.by_type.places_of_type.Goals.{then-eq, else-eq}
 

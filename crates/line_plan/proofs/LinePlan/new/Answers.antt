@@ -9,7 +9,7 @@ use Rattle.line_plan.proofs.LinePlan.new.Goals as goal
 pub returns : goal.returns
 returns c h k =
     let n = c.args.number.value in
-    let found = c.in_ok-_line.ensures h k in
+    let found = c.in_ok-question.ensures h k in
     let is = listed c.items_beneath-items.result in (
       found.0,
       ap (λ (ls : List Line). plan_over ls n is) k.lines ∙ plan_is h k.lawful n (ap is_some (answer_stands h n _ found.1)) is (c.items_beneath-items.ensures h k),

@@ -69,7 +69,7 @@ returns-else-first-2 t c h k =
     sym (ap₂ (λ i x. block_works i x c.line_works-else-first-2.result) c.in-Parallel.is c.if-first-2.false)
     ∙ block_runs h k.lawful s _ _ _ _ _ (c.in-Ok.ensures h k).1 c.in-Block.is _ _ (c.line_works-first.ensures h k) (c.line_works-else-first-2.ensures h k)
 
-pub returns-in-Err : goal.returns-in-Err
-returns-in-Err t c h k =
+pub returns-in_default : goal.returns-in_default
+returns-in_default t c h k =
     let s = state_of (listed c.args.items.now) (members c.args.state) in
-    sym (stands_none h k.lawful (runs s) _ (none_refused h k.lawful _ _ (c.in-Err.ensures h k)))
+    sym (stands_none h k.lawful (runs s) _ (none_refused h k.lawful _ _ (c.in_default.ensures h k)))

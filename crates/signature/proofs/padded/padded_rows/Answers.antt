@@ -1,6 +1,6 @@
 use Rattle.std.proofs.Common.{◌≡◌, ℕ, ◌+◌, ◌*◌, ◌/◌, ◌%◌, ◌<◌, List, [], get_or, set, sym, refl, ap, ◌∙◌, inl, inr, arith, length-set, get_or-set_other, get_or-set_same}
 use Rattle.std.proofs.lemmas.Bool.{cases_eq}
-use Rattle.signature.proofs.Cells.{getD_zeros}
+use Rattle.signature.proofs.Cells.{get_or-zeros}
 use Rattle.signature.proofs.Rows.{in_chunk}
 use Rattle.signature.proofs.padded.padded_rows.Invariants.{PaddedTo}
 use Rattle.signature.proofs.padded.padded_rows.Goals as goal
@@ -21,7 +21,7 @@ padded_more row i v y rows rl il same done =
     )
 
 pub loop-row-init : goal.loop-row-init
-loop-row-init c = (refl, λ q h. getD_zeros 1024 q, λ p h. omega arith)
+loop-row-init c = (refl, λ q h. get_or-zeros 1024 q, λ p h. omega arith)
 
 pub loop-i-preserved : goal.loop-i-preserved
 loop-i-preserved c =

@@ -3,7 +3,7 @@ use Rattle.cells.specs.Cells.{cell}
 use Rattle.signature.specs.Polynomials.{Polynomial, product_of}
 use Rattle.signature.specs.Steps.{Adds, moved, unpadded}
 use Rattle.signature.proofs.Sums.{sum_same, all_zero}
-use Rattle.signature.proofs.Cells.{getD_zeros}
+use Rattle.signature.proofs.Cells.{get_or-zeros}
 use Rattle.signature.proofs.Rows.{cell_of_row}
 use Rattle.signature.proofs.Adds.{sum_terms, adds_none, adds_as, adds_first, adds_more}
 use Rattle.signature.proofs.Scatter.{row_times, layer_times, all_layers}
@@ -58,6 +58,6 @@ returns c = λ a b d al bl dl.
     let factor : Polynomial = unpadded c.new-factor.result.rows in
     let end : c.loop-k.k ≡ 8 = omega arith in
     c.loop-k.invariant.each a b d al bl dl
-    ∙ ap₂ (λ n m. (n + m) % 65536) (getD_zeros 512 (a + 8 * b + 64 * d))
+    ∙ ap₂ (λ n m. (n + m) % 65536) (get_or-zeros 512 (a + 8 * b + 64 * d))
     (ap (λ n. sum_terms n (layer_times (cell x) factor) a b d) end ∙ all_layers (cell x) factor (cell y) c.new-factor.ensures a b d al bl dl)
     ∙ ap (λ n. n % 65536) (zero-add (product_of (cell x) (cell y) a b d))
