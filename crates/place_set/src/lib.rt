@@ -108,7 +108,7 @@ impl PlaceSet {
     }
 
     // After this subset of `whole` the next one, in falling order of masks; None after the empty set.
-    fn next_subset(self, whole: PlaceSet) -> Option<PlaceSet>
+    pub fn next_subset(self, whole: PlaceSet) -> Option<PlaceSet>
         ensures { Within (members self) (members whole) → MatchOption result (self.mask ≡ 0) (λ t. NextBelow whole self t) }
     {
         let below = self.mask.checked_sub(1)?;
