@@ -1,9 +1,9 @@
 -- The places of standing lines.
-use Rattle.std.proofs.Common.{◌≡◌, ℕ, zero, suc, ◌<◌, Bool, true, false, cond, List, length, get_or, is_some, Some, None, Option, Result, Ok, Err, sym, refl, ap, ◌∙◌, subst, ⊎_elim, arith}
+use Rattle.std.proofs.Common.{◌≡◌, ℕ, zero, suc, ◌<◌, ◌≤◌, Bool, true, false, cond, List, length, get_or, take, is_some, Some, None, Option, sym, refl, ap, ◌∙◌, subst, ⊎_elim, arith}
 use mathlib.Core.Logic.{∥∥₁_elim}
 use Rattle.std.specs.Option.{option_map}
-use Rattle.std.specs.Result.{IsOk}
 use Rattle.std.proofs.lemmas.Bool.{both_ways, cond-true}
+use Rattle.std.proofs.lemmas.List.{length-take-le, get_or-take}
 use Rattle.rules.specs.declared.line.Line.{Line}
 use Rattle.rules.specs.declared.line.Part.{Part}
 use Rattle.rules.specs.declared.refusal.Refusal.{Refusal}
@@ -16,7 +16,7 @@ use Rattle.rules.proofs.Listings.{listing_has, listing-place}
 use Rattle.rules.proofs.Sound.{sound, some_low, some_positive}
 use Rattle.rules.proofs.Tables.{line, part_there, laid_number}
 use Rattle.book.specs.declared.book.Book.{Book}
-use Rattle.book.specs.Keeps.{Keeps, Named, Seeks}
+use Rattle.book.specs.Keeps.{Keeps, Named}
 
 some_laid : (p : Option Part) (f : Part → Line) → is_some (option_map f p) ≡ is_some p
 some_laid None f = refl
@@ -83,10 +83,20 @@ not_refused h l n e on w =
 pub from_kept : (b : Book) → ((h : History) → Keeps h b → ⊥) → ⊥
 from_kept b f = ∥∥₁_elim b.kept (λ x y. absurd x) (λ k. f k.0 k.1)
 
--- so it is found, at its place
-pub sought : (b : Book) (n : ℕ) (r : Result ℕ Refusal) → Seeks n b r → ((h : History) → Keeps h b → is_some (standing h n) ≡ true) → IsOk r
-sought b n (Ok i) s on = refl
-sought b n (Err e) s on = absurd (from_kept b (λ h k. not_refused h k.lawful n e (on h k) (s h k)))
-
+-- where a book names a line, that line stands in each of its histories
 pub found : (b : Book) (n i : ℕ) → Named n b i → (h : History) → Keeps h b → At (lines_of h) n i
 found b n i s h k = subst (λ (xs : List Line). At xs n i) k.lines s.0
+
+-- a line with a lower number than the line at the place i is among those before it
+pub stands_before : (h : History) → Lawful h → (xs : List Line) (m n i : ℕ) → xs ≡ lines_of h → At xs n i → m < n → is_some (standing h m) ≡ true → At (take i xs) m (place_in h m)
+stands_before h l xs m n i e at lt on =
+    let here = subst (λ (ys : List Line). At ys m (place_in h m)) (sym e) (stands_at h l m on) in
+    let place = placed h l n i (subst (λ (ys : List Line). At ys n i) e at) in
+    let earlier : place_in h m < i = omega (arith, lower_earlier h l m n lt on) in
+    (omega (arith, length-take-le i xs (omega (arith, at.0))), ap (λ (x : Line). x.number.value) (get_or-take i xs (place_in h m) no_line earlier) ∙ here.1)
+
+-- and has its place there
+pub placed_before : (h : History) → Lawful h → (xs : List Line) (m i j : ℕ) → xs ≡ lines_of h → i ≤ length xs → At (take i xs) m j → j ≡ place_in h m
+placed_before h l xs m i j e within at =
+    let earlier : j < i = omega (arith, at.0, length-take-le i xs within) in
+    placed h l m j (subst (λ (ys : List Line). At ys m j) e (omega arith, sym (ap (λ (x : Line). x.number.value) (get_or-take i xs j no_line earlier)) ∙ at.1))

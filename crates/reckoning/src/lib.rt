@@ -1,7 +1,8 @@
 #![tactic(auto)]
 
-ghost use Rattle.std.specs.Prelude.{◌≡◌, ℕ, ◌≤◌, true, is_some, length, slice_index_or};
-ghost use Rattle.rules.specs.History.{standing, lines_standing, place_in};
+ghost use Rattle.std.specs.Prelude.{◌≡◌, ℕ, ◌≤◌, length, slice_index_or};
+ghost use Rattle.rules.specs.History.{lines_standing};
+ghost use Rattle.rules.specs.Tables.{At, Missing};
 ghost use Rattle.rules.specs.declared.item_type.ItemType.{ItemType};
 ghost use Rattle.rules.specs.declared.kind.Kind.{Kind};
 ghost use Rattle.book.specs.Keeps.{Tells};
@@ -10,7 +11,7 @@ ghost use Rattle.reckoning.specs.Figures.{Reckoned};
 use book::book::Book;
 use rules::item_type::ItemType;
 use rules::kind::Kind;
-use rules::line::Part;
+use rules::line::{Line, Part};
 use rules::part_number::PartNumber;
 
 // How the figure of a line is made: an item's from its type, a block's from its kind and the figures
@@ -37,24 +38,28 @@ pub fn reckon<R: Reckoning>(book: &Book, reckoning: &R, figures: &mut [R::Figure
     requires { Tells book.now (λ h. lines_standing h ≤ length figures.old) }
     ensures { Tells book.now (λ h. Reckoned (R.of_item reckoning.now) (R.of_block reckoning.now) h figures.old figures.new) }
 {
-    for (place, line) in book.lines().iter().enumerate() {
+    let lines = book.lines();
+    for (place, line) in lines.iter().enumerate() {
         let figure = match line.part {
             Part::Item(item_type) => reckoning.item(item_type),
             Part::Block(kind, a, b) => {
-                let x = figure_of(book, figures, a);
-                let y = figure_of(book, figures, b);
+                let x = figure_of(&lines[..place], figures, a);
+                let y = figure_of(&lines[..place], figures, b);
                 reckoning.block(kind, x, y)
             }
         };
+        // By index: the figures of the lines before it were read.
         figures[place] = figure;
     }
 }
 
-// The figure at the place of a line that stands.
-fn figure_of<'a, F>(book: &Book, figures: &'a [F], number: PartNumber) -> &'a F
-    requires stands { Tells book.now (λ h. is_some (standing h number.value) ≡ true) }
-    requires room { Tells book.now (λ h. lines_standing h ≤ length figures.now) }
-    ensures { Tells book.now (λ h. result.now ≡ slice_index_or figures.now (place_in h number.value) result.now) }
+// The figure of a line that stands among those before a block. The latest are looked at first: a block
+// is most often over lines that were made shortly before it.
+fn figure_of<'a, F>(before: &[Line], figures: &'a [F], number: PartNumber) -> &'a F
+    requires stands { Missing before.now number.value → ⊥ }
+    requires room { length before.now ≤ length figures.now }
+    ensures { (i : ℕ) × At before.now number.value i × (result.now ≡ slice_index_or figures.now i result.now) }
 {
-    &figures[book.seek(number).unwrap()]
+    let place = before.iter().rposition(|line| line.number == number);
+    &figures[place.unwrap()]
 }

@@ -1,30 +1,47 @@
-use Rattle.std.proofs.Common.{◌≡◌, ℕ, length, get_or, drop, List, Some, sym, refl, ap, ◌∙◌, subst, arith, length-set}
+use Rattle.std.proofs.Common.{◌≡◌, ℕ, length, get_or, take, drop, List, Some, sym, refl, ap, ◌∙◌, subst, arith, length-set}
+use Rattle.std.proofs.lemmas.List.{length-take-le}
 use Rattle.rules.specs.declared.line.Line.{Line}
 use Rattle.rules.specs.Tables.{no_line, At}
 use Rattle.rules.specs.History.{lines_standing}
 use Rattle.rules.proofs.Limits.{lines_length}
 use Rattle.book.proofs.Steps.{kept_bound}
-use Rattle.sums.proofs.Forest.{lines_stand}
+use Rattle.sums.proofs.Forest.{lines_stand, lines_low}
 use Rattle.reckoning.specs.Figures.{FiguredBefore}
-use Rattle.reckoning.proofs.Places.{line_among}
+use Rattle.reckoning.proofs.Places.{line_among, from_kept, stands_before, placed_before}
 use Rattle.reckoning.proofs.Figures.{item_figure, block_figure, one_more, rest_more}
 use Rattle.reckoning.proofs.reckon.Goals as goal
 use Rattle.reckoning.proofs.reckon.Goals.{in-Item, in-Block}
 
 pub figure_of-x-requires-clause-stands : goal.figure_of-x-requires-clause-stands
-figure_of-x-requires-clause-stands g c h k =
-    let xs = c.lines-line-items.result.now in
-    (lines_stand h k.lawful _ _ _ _ (line_among h xs c.loop-place.place (c.lines-line-items.ensures h k) c.loop-place-test.true ∙ ap Some c.in-Block.is)).0
+figure_of-x-requires-clause-stands g c missing =
+    let xs = c.lines-lines.result.now in
+    let i = c.loop-place.place in
+    from_kept c.args.book.now (λ h k.
+    let e = c.lines-lines.ensures h k in
+    let here = line_among h xs i e c.loop-place-test.true ∙ ap Some c.in-Block.is in
+    let at = stands_before h k.lawful xs _ _ i e (c.loop-place-test.true, refl) (lines_low h k.lawful _ _ _ _ here).0 (lines_stand h k.lawful _ _ _ _ here).0 in
+    missing _ at.0 at.1)
+
+pub figure_of-x-requires-clause-room : goal.figure_of-x-requires-clause-room
+figure_of-x-requires-clause-room g c = omega (arith, c.loop-place.invariant.room, length-take-le c.loop-place.place c.lines-lines.result.now (omega (arith, c.loop-place-test.true)))
 
 pub figure_of-y-requires-clause-stands : goal.figure_of-y-requires-clause-stands
-figure_of-y-requires-clause-stands g c h k =
-    let xs = c.lines-line-items.result.now in
-    (lines_stand h k.lawful _ _ _ _ (line_among h xs c.loop-place.place (c.lines-line-items.ensures h k) c.loop-place-test.true ∙ ap Some c.in-Block.is)).1
+figure_of-y-requires-clause-stands g c missing =
+    let xs = c.lines-lines.result.now in
+    let i = c.loop-place.place in
+    from_kept c.args.book.now (λ h k.
+    let e = c.lines-lines.ensures h k in
+    let here = line_among h xs i e c.loop-place-test.true ∙ ap Some c.in-Block.is in
+    let at = stands_before h k.lawful xs _ _ i e (c.loop-place-test.true, refl) (lines_low h k.lawful _ _ _ _ here).1 (lines_stand h k.lawful _ _ _ _ here).1 in
+    missing _ at.0 at.1)
+
+pub figure_of-y-requires-clause-room : goal.figure_of-y-requires-clause-room
+figure_of-y-requires-clause-room g c = omega (arith, c.loop-place.invariant.room, length-take-le c.loop-place.place c.lines-lines.result.now (omega (arith, c.loop-place-test.true)))
 
 pub loop-place-init : goal.loop-place-init
 loop-place-init g c = record {
   figured = λ h k n on lt d. absurd (omega (arith, lt));
-  room = kept_bound c.args.book.now _ _ (λ h k. omega (arith, ap length (c.lines-line-items.ensures h k), lines_length h, c.requires h k));
+  room = kept_bound c.args.book.now _ _ (λ h k. omega (arith, ap length (c.lines-lines.ensures h k), lines_length h, c.requires h k));
   behind = refl;
 }
 
@@ -32,22 +49,24 @@ pub loop-place-preserved : goal.loop-place-preserved
 loop-place-preserved g c =
     let item = g.R.Reckoning.of_item c.args.reckoning.now in
     let block = g.R.Reckoning.of_block c.args.reckoning.now in
-    let xs = c.lines-line-items.result.now in
+    let xs = c.lines-lines.result.now in
     let i = c.loop-place.place in
     let n = (get_or xs i no_line).number.value in
     let figures = c.loop-place.figures in
     let v = c.match-line.figure in
     record {
       figured = λ h k.
-          let e = c.lines-line-items.ensures h k in
+          let e = c.lines-lines.ensures h k in
           let at = subst (λ (ys : List Line). At ys n i) e (c.loop-place-test.true, refl) in
           let here = line_among h xs i e c.loop-place-test.true in
           let before = c.loop-place.invariant.figured h k in
+          let found = λ (m : ℕ) (v : g.row.R-Figure.Denot) (w : (j : ℕ) × At (take i xs) m j × (v ≡ get_or figures j v)).
+          w.2 ∙ ap (λ (j : ℕ). get_or figures j v) (placed_before h k.lawful xs m i w.0 e (omega (arith, c.loop-place-test.true)) w.1) in
           one_more item block h k.lawful n i figures v at (omega (arith, c.loop-place.invariant.room)) before
           (elim c.match-line.branch [
             | in-Item w ↦ item_figure item block h k.lawful n w.in-Item.item_type v (here ∙ ap Some w.in-Item.is) (subst (item w.in-Item.item_type) (sym w.figure-is) w.item-figure.ensures)
             | in-Block w ↦ block_figure item block h k.lawful n i w.in-Block.kind w.in-Block.a w.in-Block.b figures w.figure_of-x.result.now w.figure_of-y.result.now v at (here ∙ ap Some w.in-Block.is) before
-                (w.figure_of-x.ensures h k) (w.figure_of-y.ensures h k) (subst (block w.in-Block.kind w.figure_of-x.result.now w.figure_of-y.result.now) (sym w.figure-is) w.block-figure.ensures)
+                (found _ _ w.figure_of-x.ensures) (found _ _ w.figure_of-y.ensures) (subst (block w.in-Block.kind w.figure_of-x.result.now w.figure_of-y.result.now) (sym w.figure-is) w.block-figure.ensures)
           ]);
       room = omega (arith, c.loop-place.invariant.room, length-set figures i v);
       behind = rest_more figures c.args.figures.now i v c.loop-place.invariant.behind;
@@ -55,7 +74,7 @@ loop-place-preserved g c =
 
 pub returns : goal.returns
 returns g c h k =
-    let e : c.loop-place.place ≡ lines_standing h = omega (arith, ap length (c.lines-line-items.ensures h k), lines_length h) in
+    let e : c.loop-place.place ≡ lines_standing h = omega (arith, ap length (c.lines-lines.ensures h k), lines_length h) in
     let figures = c.loop-place.figures in
     record {
       figured = subst (λ (i : ℕ). FiguredBefore (g.R.Reckoning.of_item c.args.reckoning.now) (g.R.Reckoning.of_block c.args.reckoning.now) h i figures) e (c.loop-place.invariant.figured h k);
