@@ -34,7 +34,7 @@ mod tests {
     use crate::lockout::{LockedPlace, Lockout};
     use crate::mirror::Mirror;
     use crate::path_list::PathList;
-    use crate::pile::{Layer, Pile};
+    use crate::pile::{Layer, Pile, SettledPile};
     use rules::refusal::Refusal;
     use std::test::Fail;
 
@@ -68,7 +68,7 @@ mod tests {
         Ok(())
     }
 
-    // A pile as one value answers as the types that are laid one over another.
+    // A pile as one value answers as the types that are laid one over another, and settled too.
     #[test]
     fn layers(rt: HostRuntime) -> Result<(), Fail> {
         let paths = [PlaceSet::from(3), PlaceSet::from(4)];
@@ -93,16 +93,32 @@ mod tests {
             let state = PlaceSet::from(mask);
             assert_eq!(rt; pile.works(state), nested.works(state));
         }
+        let settled = SettledPile::from(pile);
+        for place in 0..=16 {
+            assert_eq!(rt; settled.item_type(place), nested.item_type(place));
+        }
+        for mask in 0..8 {
+            let state = PlaceSet::from(mask);
+            assert_eq!(rt; settled.works(state), nested.works(state));
+        }
         let locked_first = Pile {
             plan: PathList::new(NUMBERS, paths.to_vec(rt.alloc())?)?,
             layers: layers[1..].to_vec(rt.alloc())?,
         };
         assert_eq!(rt; locked_first.works(PlaceSet::from(4)), true);
+        assert_eq!(rt;
+            SettledPile::from(locked_first).works(PlaceSet::from(4)),
+            true
+        );
         let mirrored_first = Pile {
             plan: PathList::new(NUMBERS, paths.to_vec(rt.alloc())?)?,
             layers: layers[..2].to_vec(rt.alloc())?,
         };
         assert_eq!(rt; mirrored_first.works(PlaceSet::from(4)), false);
+        assert_eq!(rt;
+            SettledPile::from(mirrored_first).works(PlaceSet::from(4)),
+            false
+        );
         Ok(())
     }
 

@@ -4,7 +4,7 @@ use cells::table::CellTable;
 use count::{long_count, totals};
 use plan::lockout::LockedPlace;
 use plan::path_list::PathList;
-use plan::pile::Pile;
+use plan::pile::{Pile, SettledPile};
 use plan::{Plan, pile};
 use rules::refusal::Refusal;
 use std::alloc::Global;
@@ -31,7 +31,7 @@ pub fn show_plan<P: Plan + Drop, W: Write>(
     match made {
         Ok(plan) => {
             let layers = lay(heap, layers, out)?;
-            show_counts(&Pile { plan, layers }, out)?;
+            show_counts(&SettledPile::from(Pile { plan, layers }), out)?;
         }
         Err(refusal) => writeln!(out, "{refusal}")?,
     }

@@ -2,8 +2,7 @@ use Rattle.std.proofs.Common.{◌≡◌}
 use Rattle.std.specs.Iterator.Adapters.{rev_source}
 use Rattle.std.specs.Slice.Iter.{iter_rest}
 use Rattle.place_set.specs.Sets.{members}
-use Rattle.plan.specs.Piles.{piled}
-use Rattle.plan.specs.PilesLemmas.{turned_if}
+use Rattle.plan.specs.Piles.{piled, turned_if}
 use Rattle.plan.proofs.pile.PilePlan.works.Given as goal
 
 -- the layers that are left answer as all do, but for the mirrors so far
