@@ -28,12 +28,13 @@ use Rattle.sums.proofs.Members.{has_to}
 use Rattle.sums.proofs.Numbers.{numbers_semiring}
 use Rattle.sums.proofs.Places.{places_stand_lem}
 use Rattle.sums.proofs.States.{put_same, put_other}
+use Rattle.place_set.proofs.Masks.{bit_none}
 use Rattle.plan.specs.LinePlans.{plan_of_line}
 use Rattle.survey.proofs.Folds.{named_stands}
 use Rattle.survey.proofs.Places.{answer_stands}
 use Rattle.line_plan.specs.declared.item_list.TypedItem.{TypedItem}
 use Rattle.line_plan.specs.Items.{state_of}
-use Rattle.line_plan.specs.Beneath.{stands_and, ItemsBeneath}
+use Rattle.line_plan.specs.Beneath.{stands_and, Marks, ItemsBeneath}
 use Rattle.line_plan.specs.Meanings.{part_works, lines_work, plan_over}
 
 lines_append : (s : State) (xs ys : List Line) (w : State) → lines_work s w (xs ++ ys) ≡ lines_work s (lines_work s w xs) ys
@@ -77,10 +78,11 @@ module _ (h : History) (l : Lawful h) where
         ∙ sym (joins k (tree_of h a.value) (tree_of h b.value))
         ∙ sym (stands_tree n (ap is_some e) ∙ ap test (tree_block h l n k a b e))
 
-    -- the answer of a question for the test, with false for a line that does not stand
-    pub unwrap_stands : (n : ℕ) (r : Result Bool Refusal) → Decided (naming h n) (λ v. v ≡ test (tree_of h n)) r → result_unwrap_or r false ≡ stands_and h n test
-    unwrap_stands n (Ok v) d = d.1 ∙ sym (stands_tree n (named_stands (standing h n) d.0.1.0))
-    unwrap_stands n (Err e) w = sym (stands_none n (none_refused n e w))
+  -- the marks that a question answers, with none for a line that does not stand
+  pub unwrap_marks : (test : ℕ → Tree → Bool) (n : ℕ) (r : Result ℕ Refusal) → Decided (naming h n) (λ v. Marks h v (λ m. test m (tree_of h n))) r
+      → Marks h (result_unwrap_or r 0) (λ m. stands_and h n (test m))
+  unwrap_marks test n (Ok v) d i m at = d.1 i m at ∙ sym (stands_tree (test m) n (named_stands (standing h n) d.0.1.0))
+  unwrap_marks test n (Err e) w i m at = bit_none i ∙ sym (stands_none (test m) n (none_refused n e w))
 
   module _ (s : State) where
     abbrev runs : Tree → Bool

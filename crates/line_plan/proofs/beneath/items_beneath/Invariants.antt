@@ -6,6 +6,6 @@ use Rattle.line_plan.specs.Items.{listed}
 use Rattle.line_plan.proofs.Picking.{picked}
 use Rattle.line_plan.proofs.beneath.items_beneath.Given as goal
 
-abbrev pub invariant-loop-line : goal.invariant-loop-line
-invariant-loop-line l = (h : History) → Keeps h l.book
-    → listed l.items ++ picked (items (tree_of h l.number.value)) (drop l.line-index l.lines) ≡ picked (items (tree_of h l.number.value)) (lines_of h)
+abbrev pub invariant-loop-place : goal.invariant-loop-place
+invariant-loop-place l = (h : History) → Keeps h l.book
+    → listed l.items ++ picked (items (tree_of h l.fn.number.value)) (drop l.place l.line-items) ≡ picked (items (tree_of h l.fn.number.value)) (lines_of h)
