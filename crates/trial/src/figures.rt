@@ -17,6 +17,11 @@ pub trait Shown: Copy + PartialEq {
     // What stands at a place before the survey. No survey leaves it.
     fn junk(place: u16) -> Self;
 
+    // Whether it is still what stood at the place before.
+    fn is_junk(&self, place: u16) -> bool {
+        *self == Self::junk(place)
+    }
+
     fn show<W: Write>(&self, out: &mut W) -> io::Result<()>;
 }
 
@@ -44,13 +49,22 @@ impl Shown for Loss {
     }
 }
 
+fn junk_cell(place: u16, k: u16) -> u16 {
+    40_000u16.wrapping_add(place).wrapping_add(k)
+}
+
 impl Shown for CellTable {
     fn junk(place: u16) -> CellTable {
-        let mut cells = [40_000u16.wrapping_add(place); 512];
-        for (k, cell) in (0u16..).zip(cells.iter_mut()) {
-            *cell = cell.wrapping_add(k);
+        let mut cells = [0; 512];
+        for (k, cell) in (0..512u16).zip(cells.iter_mut()) {
+            *cell = junk_cell(place, k);
         }
         CellTable::new(cells)
+    }
+
+    // The first cell of a table that was filled differs most often, and then no junk is made.
+    fn is_junk(&self, place: u16) -> bool {
+        self.cells()[0] == junk_cell(place, 0) && *self == Self::junk(place)
     }
 
     // The cells that are not 0, as ABC:VALUE.
@@ -72,7 +86,7 @@ impl Shown for CellTable {
 
 // What stands at the place, or `junk` if that is what stood there before.
 pub fn show_at<F: Shown, W: Write>(figure: &F, place: u16, out: &mut W) -> io::Result<()> {
-    if *figure == F::junk(place) {
+    if figure.is_junk(place) {
         write!(out, "junk")
     } else {
         figure.show(out)
