@@ -1,7 +1,7 @@
 ghost use Rattle.std.specs.Prelude.{◌≡◌, ◌<◌};
 ghost use Rattle.plan.specs.Lockouts.{LockoutRuled};
 ghost use Rattle.plan.specs.Plans.{locked_out};
-ghost use Rattle.std.proofs.Common.{rules};
+ghost use Rattle.plan.specs.PilesLemmas.{locked_out_lawful};
 
 use crate::Plan;
 use place_set::PlaceSet;
@@ -35,7 +35,7 @@ pub struct Lockout<P> {
 impl<P: Plan> Plan for Lockout<P> {
     ghost meaning = { λ l. locked_out l.locked.place (P.Plan.meaning l.plan) };
 
-    ghost lawful = { Prim.search rules };
+    ghost lawful = { λ l. locked_out_lawful l.locked.place (P.Plan.meaning l.plan) (P.Plan.lawful l.plan) };
 
     fn item_type(&self, place: u8) -> Option<ItemType> {
         self.plan.item_type(place)

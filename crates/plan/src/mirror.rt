@@ -1,6 +1,6 @@
 ghost use Rattle.std.specs.Prelude.{◌≡◌};
 ghost use Rattle.plan.specs.Plans.{mirrored};
-ghost use Rattle.std.proofs.Common.{rules};
+ghost use Rattle.plan.specs.PilesLemmas.{mirrored_lawful};
 
 use crate::Plan;
 use place_set::PlaceSet;
@@ -15,7 +15,7 @@ pub struct Mirror<P> {
 impl<P: Plan> Plan for Mirror<P> {
     ghost meaning = { λ m. mirrored (P.Plan.meaning m.plan) };
 
-    ghost lawful = { Prim.search rules };
+    ghost lawful = { λ m. mirrored_lawful (P.Plan.meaning m.plan) (P.Plan.lawful m.plan) };
 
     fn item_type(&self, place: u8) -> Option<ItemType> {
         self.plan.item_type(place)

@@ -6,8 +6,11 @@ use Rattle.std.proofs.lemmas.Bool.{both_ways, cond-true}
 use Rattle.std.proofs.lemmas.List.{length-take-le, get_or-take}
 use Rattle.rules.specs.declared.line.Line.{Line}
 use Rattle.rules.specs.declared.line.Part.{Part}
+use Rattle.rules.specs.declared.line.Part.TheVariants.{Block}
+use Rattle.rules.specs.declared.kind.Kind.{Kind}
+use Rattle.rules.specs.declared.part_number.PartNumber.{PartNumber}
 use Rattle.rules.specs.declared.refusal.Refusal.{Refusal}
-use Rattle.rules.specs.Tables.{no_line, At}
+use Rattle.rules.specs.Tables.{no_line, At, Missing}
 use Rattle.rules.specs.History.{History, given, standing, is_built_in, line_of, lines_of, place_in}
 use Rattle.rules.specs.Rules.{Refused}
 use Rattle.rules.specs.Ruled.{naming, Lawful}
@@ -16,7 +19,8 @@ use Rattle.rules.proofs.Listings.{listing_has, listing-place}
 use Rattle.rules.proofs.Sound.{sound, some_low, some_positive}
 use Rattle.rules.proofs.Tables.{line, part_there, laid_number}
 use Rattle.book.specs.declared.book.Book.{Book}
-use Rattle.book.specs.Keeps.{Keeps, Named}
+use Rattle.book.specs.Keeps.{Keeps, Tells, Named}
+use Rattle.sums.proofs.Forest.{lines_stand, lines_low}
 
 some_laid : (p : Option Part) (f : Part → Line) → is_some (option_map f p) ≡ is_some p
 some_laid None f = refl
@@ -95,8 +99,23 @@ stands_before h l xs m n i e at lt on =
     let earlier : place_in h m < i = omega (arith, lower_earlier h l m n lt on) in
     (omega (arith, length-take-le i xs (omega (arith, at.0))), ap (λ (x : Line). x.number.value) (get_or-take i xs (place_in h m) no_line earlier) ∙ here.1)
 
--- and has its place there
+-- a line found among those before the place i has the place that each history gives it
 pub placed_before : (h : History) → Lawful h → (xs : List Line) (m i j : ℕ) → xs ≡ lines_of h → i ≤ length xs → At (take i xs) m j → j ≡ place_in h m
 placed_before h l xs m i j e within at =
     let earlier : j < i = omega (arith, at.0, length-take-le i xs within) in
     placed h l m j (subst (λ (ys : List Line). At ys m j) e (omega arith, sym (ap (λ (x : Line). x.number.value) (get_or-take i xs j no_line earlier)) ∙ at.1))
+
+-- both lines of the block at the place i stand among those before it
+module _ (v : Book) (xs : List Line) (i : ℕ) (k : Kind) (a b : PartNumber) (are : Tells v (λ h. xs ≡ lines_of h)) (lt : i < length xs) (is : (get_or xs i no_line).part ≡ Block k a b) where
+  both : (h : History) → Keeps h v → At (take i xs) a.value (place_in h a.value) × At (take i xs) b.value (place_in h b.value)
+  both h kept =
+      let here = line_among h xs i (are h kept) lt ∙ ap Some is in
+      let low = lines_low h kept.lawful _ k a b here in
+      let on = lines_stand h kept.lawful _ k a b here in
+      (stands_before h kept.lawful xs _ _ i (are h kept) (lt, refl) low.0 on.0, stands_before h kept.lawful xs _ _ i (are h kept) (lt, refl) low.1 on.1)
+
+  pub lines_before : (Missing (take i xs) a.value → ⊥) × (Missing (take i xs) b.value → ⊥)
+  lines_before = (
+    λ missing. from_kept v (λ h kept. let at = (both h kept).0 in missing _ at.0 at.1),
+    λ missing. from_kept v (λ h kept. let at = (both h kept).1 in missing _ at.0 at.1),
+  )

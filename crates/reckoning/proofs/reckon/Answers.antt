@@ -1,42 +1,31 @@
-use Rattle.std.proofs.Common.{◌≡◌, ℕ, length, get_or, take, drop, List, Some, sym, refl, ap, ◌∙◌, subst, arith, length-set}
+use Rattle.std.proofs.Common.{◌≡◌, ℕ, ◌<◌, ◌≤◌, length, get_or, take, drop, List, Some, sym, refl, ap, ◌∙◌, subst, arith, length-set}
 use Rattle.std.proofs.lemmas.List.{length-take-le}
 use Rattle.rules.specs.declared.line.Line.{Line}
 use Rattle.rules.specs.Tables.{no_line, At}
 use Rattle.rules.specs.History.{lines_standing}
 use Rattle.rules.proofs.Limits.{lines_length}
 use Rattle.book.proofs.Steps.{kept_bound}
-use Rattle.sums.proofs.Forest.{lines_stand, lines_low}
 use Rattle.reckoning.specs.Figures.{FiguredBefore}
-use Rattle.reckoning.proofs.Places.{line_among, from_kept, stands_before, placed_before}
+use Rattle.reckoning.proofs.Places.{line_among, placed_before, lines_before}
 use Rattle.reckoning.proofs.Figures.{item_figure, block_figure, one_more, rest_more}
 use Rattle.reckoning.proofs.reckon.Goals as goal
 use Rattle.reckoning.proofs.reckon.Goals.{in-Item, in-Block}
 
+-- the figures have a place for each of the lines before one
+room_before : {F : Type 0} (xs : List Line) (figures : List F) (i : ℕ) → i < length xs → length xs ≤ length figures → length (take i xs) ≤ length figures
+room_before xs figures i lt room = omega (arith, room, length-take-le i xs (omega (arith, lt)))
+
 pub figure_of-x-requires-clause-stands : goal.figure_of-x-requires-clause-stands
-figure_of-x-requires-clause-stands g c missing =
-    let xs = c.lines-lines.result.now in
-    let i = c.loop-place.place in
-    from_kept c.args.book.now (λ h k.
-    let e = c.lines-lines.ensures h k in
-    let here = line_among h xs i e c.loop-place-test.true ∙ ap Some c.in-Block.is in
-    let at = stands_before h k.lawful xs _ _ i e (c.loop-place-test.true, refl) (lines_low h k.lawful _ _ _ _ here).0 (lines_stand h k.lawful _ _ _ _ here).0 in
-    missing _ at.0 at.1)
+figure_of-x-requires-clause-stands g c = (lines_before c.args.book.now c.lines-lines.result.now c.loop-place.place _ _ _ c.lines-lines.ensures c.loop-place-test.true c.in-Block.is).0
 
 pub figure_of-x-requires-clause-room : goal.figure_of-x-requires-clause-room
-figure_of-x-requires-clause-room g c = omega (arith, c.loop-place.invariant.room, length-take-le c.loop-place.place c.lines-lines.result.now (omega (arith, c.loop-place-test.true)))
+figure_of-x-requires-clause-room g c = room_before c.lines-lines.result.now c.loop-place.figures c.loop-place.place c.loop-place-test.true c.loop-place.invariant.room
 
 pub figure_of-y-requires-clause-stands : goal.figure_of-y-requires-clause-stands
-figure_of-y-requires-clause-stands g c missing =
-    let xs = c.lines-lines.result.now in
-    let i = c.loop-place.place in
-    from_kept c.args.book.now (λ h k.
-    let e = c.lines-lines.ensures h k in
-    let here = line_among h xs i e c.loop-place-test.true ∙ ap Some c.in-Block.is in
-    let at = stands_before h k.lawful xs _ _ i e (c.loop-place-test.true, refl) (lines_low h k.lawful _ _ _ _ here).1 (lines_stand h k.lawful _ _ _ _ here).1 in
-    missing _ at.0 at.1)
+figure_of-y-requires-clause-stands g c = (lines_before c.args.book.now c.lines-lines.result.now c.loop-place.place _ _ _ c.lines-lines.ensures c.loop-place-test.true c.in-Block.is).1
 
 pub figure_of-y-requires-clause-room : goal.figure_of-y-requires-clause-room
-figure_of-y-requires-clause-room g c = omega (arith, c.loop-place.invariant.room, length-take-le c.loop-place.place c.lines-lines.result.now (omega (arith, c.loop-place-test.true)))
+figure_of-y-requires-clause-room g c = room_before c.lines-lines.result.now c.loop-place.figures c.loop-place.place c.loop-place-test.true c.loop-place.invariant.room
 
 pub loop-place-init : goal.loop-place-init
 loop-place-init g c = record {

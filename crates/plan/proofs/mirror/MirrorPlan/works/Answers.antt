@@ -1,6 +1,6 @@
 use Rattle.std.proofs.Common.{not, sym, ap, ◌∙◌}
 use Rattle.place_set.specs.Sets.{members}
-use Rattle.plan.specs.PilesLemmas.{mirrored-works}
+use Rattle.plan.proofs.Piles.{mirrored-works}
 use Rattle.plan.proofs.mirror.MirrorPlan.works.Goals as goal
 
 pub returns : goal.returns

@@ -1,4 +1,4 @@
-use Rattle.plan.specs.PilesLemmas.{below_lockout, below_mirror}
+use Rattle.plan.proofs.Piles.{below_lockout, below_mirror}
 use Rattle.plan.proofs.pile.PilePlan.works.Goals as goal
 
 pub loop-layer-preserved-in-Lockout : goal.loop-layer-preserved-in-Lockout

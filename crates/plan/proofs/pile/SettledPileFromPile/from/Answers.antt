@@ -4,7 +4,8 @@ use Rattle.std.specs.Slice.Iter.{iter_rest}
 use Rattle.place_set.specs.Sets.{bit}
 use Rattle.place_set.proofs.Masks.{bit_none}
 use Rattle.plan.specs.Piles.{piled}
-use Rattle.plan.specs.PilesLemmas.{piled_lawful, below_lockout, below_mirror, between-put, between-others, between-start}
+use Rattle.plan.specs.PilesLemmas.{piled_lawful}
+use Rattle.plan.proofs.Piles.{below_lockout, below_mirror, between-put, between-others, between-start}
 use Rattle.plan.proofs.pile.SettledPileFromPile.from.Goals as goal
 
 pub loop-layer-init : goal.loop-layer-init

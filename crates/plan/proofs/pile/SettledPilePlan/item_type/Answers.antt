@@ -1,4 +1,4 @@
-use Rattle.plan.specs.PilesLemmas.{piled-types}
+use Rattle.plan.proofs.Piles.{piled-types}
 use Rattle.plan.proofs.pile.SettledPilePlan.item_type.Goals as goal
 
 pub returns : goal.returns

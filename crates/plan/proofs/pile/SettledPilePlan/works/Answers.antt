@@ -1,7 +1,7 @@
 use Rattle.std.proofs.Common.{◌≡◌, sym, ap, ap₂, ◌∙◌, rules}
 use Rattle.place_set.specs.Sets.{members, either}
 use Rattle.plan.specs.Piles.{piled, turned_if, between}
-use Rattle.plan.specs.PilesLemmas.{sets-between}
+use Rattle.plan.proofs.Piles.{sets-between}
 use Rattle.plan.proofs.pile.SettledPilePlan.works.Goals as goal
 
 pub returns : goal.returns
